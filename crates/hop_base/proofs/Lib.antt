@@ -1,0 +1,4 @@
+pub mod Best
+pub mod OrderLaws
+pub mod RangesLaws
+pub mod Sorted

@@ -1,0 +1,7 @@
+pub mod Causes
+pub mod Files
+pub mod Meaning
+pub mod Order
+pub mod Ranges
+pub mod Run
+pub mod Sorted
