@@ -1,0 +1,6 @@
+pub mod Combined
+pub mod GroupLaws
+pub mod Keys
+pub mod Lines
+pub mod StandsLaws
+pub mod Values
