@@ -1,4 +1,5 @@
 pub mod Combined
+pub mod Emitted
 pub mod GroupLaws
 pub mod Keys
 pub mod Lines

@@ -162,3 +162,14 @@ stands_combined combine reduce a sheet ps well alike va h s =
           ])
           ∙ s.same_reduce k ws v;
     }
+
+-- pairs stand for themselves
+pub stands_itself : (reduce : List ℕ → List Val → List ℕ) (ps : List Pair) → StandsFor reduce ps ps
+stands_itself reduce ps = record { same_keys = refl; same_reduce = λ k ws v. refl }
+
+-- and for what pairs that they stand for stand for
+pub stands_through : (reduce : List ℕ → List Val → List ℕ) (ps qs rs : List Pair) → StandsFor reduce ps qs → StandsFor reduce qs rs → StandsFor reduce ps rs
+stands_through reduce ps qs rs h k = record {
+  same_keys = h.same_keys ∙ k.same_keys;
+  same_reduce = λ key ws v. h.same_reduce key ws v ∙ k.same_reduce key ws v;
+}
