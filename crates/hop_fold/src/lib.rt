@@ -1,0 +1,8 @@
+//! The blocking job: map all records, group the pairs by key, and reduce each key once.
+#![tactic(auto)]
+
+pub mod blocking;
+mod gathered;
+mod lines;
+
+pub use blocking::{block, block_lines};
