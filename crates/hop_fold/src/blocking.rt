@@ -4,7 +4,7 @@ ghost use Rattle.std.specs.List.{concat};
 ghost use Rattle.hop_laws.specs.Blocking.{blocking_texts};
 ghost use Rattle.hop_records.specs.Records.{records_of};
 
-use crate::gathered::{empty_lists, gather_lines, gather, reduce_all};
+use crate::gathered::{empty_lists, gather, gather_lines, reduce_all};
 use crate::lines::joined;
 use hop_base::{NoMemory, Texts};
 use hop_laws::Job;

@@ -4,5 +4,7 @@
 pub mod blocking;
 mod gathered;
 mod lines;
+#[cfg(test)]
+mod tests;
 
 pub use blocking::{block, block_lines};

@@ -20,8 +20,9 @@ loop-rest-preserved g c =
       short = All-tail (λ line. length line ≤ 131050) line (records_of later)
           (subst (λ (rs : List (List ℕ)). All (λ line. length line ≤ 131050) rs) c.first_line.ensures.cut c.loop-rest.invariant.short);
       gathers = λ records start.
-          let h = c.loop-rest.invariant.gathers records start in
-          (h.0 ++ line ∷ [],
-          append_assoc h.0 (line ∷ []) (records_of later) ∙ ap (λ rs. h.0 ++ rs) (sym c.first_line.ensures.cut) ∙ h.1,
-          c.in_ok-gather.ensures.gathers h.0 h.2);
+          let h = c.loop-rest.invariant.gathers records start in (
+            h.0 ++ line ∷ [],
+            append_assoc h.0 (line ∷ []) (records_of later) ∙ ap (λ rs. h.0 ++ rs) (sym c.first_line.ensures.cut) ∙ h.1,
+            c.in_ok-gather.ensures.gathers h.0 h.2,
+          );
     }

@@ -12,7 +12,7 @@ invariant-loop-rest g l =
       same : length l.lists.items ≡ length l.fn.lists.items;
       short : All (λ line. length line ≤ 131050) (records_of l.rest);
       gathers : (records : List (List ℕ)) → Gathers meaning records l.fn.lists.items
-      → (done : List (List ℕ)) × (done ++ records_of l.rest ≡ records ++ records_of l.fn.bytes) × Gathers meaning done l.lists.items;
+          → (done : List (List ℕ)) × (done ++ records_of l.rest ≡ records ++ records_of l.fn.bytes) × Gathers meaning done l.lists.items;
     }
 
 abbrev pub decreases-loop-rest : goal.decreases-loop-rest

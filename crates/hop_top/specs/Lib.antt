@@ -1,0 +1,5 @@
+pub mod Meets
+pub mod Puts
+pub mod Reads
+pub mod Report
+pub mod Work

@@ -1,0 +1,51 @@
+-- Files that are put one after another.
+use Rattle.std.specs.Prelude.{◌≡◌, ◌⊎◌, ℕ, List, map, take, string_bytes}
+use Rattle.hop_base.specs.Causes.{Rose}
+use Rattle.hop_ports.specs.Views.{FolderView, SinkView, appended}
+use Rattle.hop_ports.specs.Causes.{TookPrefix}
+use Rattle.hop_ports.specs.declared.folder.PutFault.{PutFault}
+use Rattle.hop_ports.specs.declared.folder.PutFault.TheVariants.{Failed, NoMemory}
+use Rattle.hop_top.specs.Work.{Puts, with_files}
+use Rattle.hop_top.specs.declared.puts.NamedFile.{NamedFile}
+use Rattle.hop_top.specs.declared.outcome.Outcome.{Outcome}
+use Rattle.hop_top.specs.declared.outcome.Outcome.TheVariants as outcome
+
+-- a file by its name
+abbrev pub file_of : NamedFile → List ℕ × List ℕ
+file_of file = (string_bytes file.name, file.bytes)
+
+abbrev pub files_in : List NamedFile → Puts
+files_in files = map file_of files
+
+-- the first of the files were put
+abbrev pub PutFirst : FolderView → FolderView → Puts → Type 0
+PutFirst old new files = (k : ℕ) × (new.held ≡ with_files old.held (take k files))
+
+-- why not all files were put, and what was left
+abbrev pub PutsCause : FolderView → FolderView → Puts → PutFault → Type 0
+PutsCause old new files Failed = Rose old.puts new.puts × PutFirst old new files
+PutsCause old new files NoMemory = PutFirst old new files
+
+module _ (old new : FolderView) (heard hears : SinkView) (files : Puts) (summary : List ℕ) where
+  -- the first files were put and nothing was said
+  pub record HandsFirst : Type 0 where
+    pub put : PutFirst old new files
+    pub taken : hears.taken ≡ heard.taken
+
+  -- all files were put and a prefix of the summary was said
+  pub record HandsUnsaid : Type 0 where
+    pub held : new.held ≡ with_files old.held files
+    pub said : TookPrefix heard hears summary
+
+  -- all files were put and the summary was said
+  pub record HandsAll : Type 0 where
+    pub held : new.held ≡ with_files old.held files
+    pub said : hears.taken ≡ appended heard.taken summary
+
+  -- how it ends to put files and to say a summary
+  abbrev pub HandsOut : Outcome → Type 0
+  HandsOut outcome.Done = HandsAll
+  HandsOut outcome.FolderFailed = Rose old.puts new.puts × HandsFirst
+  HandsOut outcome.SayFailed = Rose heard.faults hears.faults × HandsUnsaid
+  HandsOut outcome.NoMemory = HandsFirst ⊎ HandsUnsaid
+  HandsOut other = ⊥

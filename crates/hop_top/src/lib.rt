@@ -1,0 +1,15 @@
+//! The top call: the words are read, the command is done, and the outcome says how it ended.
+#![tactic(auto)]
+
+pub mod block;
+pub mod outcome;
+pub mod puts;
+pub mod reads;
+pub mod report;
+#[cfg(test)]
+mod tests;
+pub mod top;
+
+pub use outcome::{File, Outcome, Refusal};
+pub use report::{fault_line, status};
+pub use top::{Handed, hop, hop_plain};

@@ -1,0 +1,98 @@
+//! The top call.
+ghost use Rattle.std.specs.Prelude.{◌≡◌, map, vec_len};
+ghost use Rattle.hop_words.specs.Options.{HasNames, asked, command_of, settings_of};
+ghost use Rattle.hop_top.specs.Meets.{Meets, MeetsCommand};
+
+use crate::block::block;
+use crate::outcome::Outcome;
+use hop_base::{Settings, Words};
+use hop_ports::{Folder, Gate, Sink};
+use hop_words::{Command, WordsFault, read_words};
+use std::alloc::Global;
+use std::sync::Wait;
+use std::thread::Threads;
+
+/// An answer, with the folders that were moved in for it, the spill folders in the same order.
+#[derive(Drop)]
+pub struct Handed<A, F, V> {
+    pub answer: A,
+    pub folder: F,
+    pub spills: Vec<V>,
+}
+
+// Does a command.
+fn run<F: Folder, O: Sink>(
+    alloc: Global,
+    command: &Command,
+    settings: &Settings,
+    folder: &mut F,
+    out: &mut O,
+) -> Outcome
+    requires { HasNames command.now }
+    ensures { MeetsCommand (F.seen folder.old) (F.seen folder.new) (O.seen out.old) (O.seen out.new) (command_of command.now) (settings_of settings.now) result }
+{
+    match command {
+        Command::Block { job, input } => block(alloc, job, input, settings, folder, out),
+    }
+}
+
+// Does what the words ask for.
+fn answer<F: Folder, O: Sink>(alloc: Global, words: &Words, folder: &mut F, out: &mut O) -> Outcome
+    ensures { Meets (F.seen folder.old) (F.seen folder.new) (O.seen out.old) (O.seen out.new) (asked words.now) result }
+{
+    match read_words(alloc, words) {
+        Ok(options) => run(alloc, &options.command, &options.settings, folder, out),
+        Err(WordsFault::Usage) => Outcome::Usage,
+        Err(WordsFault::NoMemory) => Outcome::NoMemory,
+    }
+}
+
+/// Does what the words ask for, on one thread: it reads the files that they name in `folder`, puts
+/// files there, and writes one summary to `out`. `words` are those after the program's name, and
+/// `spills` are the spill folders of the eight workers. It always returns.
+///
+/// The idea is the online MapReduce of T. Condie and others, "MapReduce Online", NSDI 2010.
+pub fn hop_plain<F: Folder, V: Folder, O: Sink>(
+    alloc: Global,
+    words: &Words,
+    folder: F,
+    spills: Vec<V>,
+    out: &mut O,
+) -> Handed<Outcome, F, V>
+    requires { vec_len spills ≡ 8 }
+    ensures meets { Meets (F.seen folder) (F.seen result.folder) (O.seen out.old) (O.seen out.new) (asked words.now) result.answer }
+    ensures spills { map V.seen result.spills.items ≡ map V.seen spills.items }
+{
+    let mut folder = folder;
+    let answer = answer(alloc, words, &mut folder, out);
+    Handed {
+        answer,
+        folder,
+        spills,
+    }
+}
+
+/// Does what the words ask for. The gate is passed where threads run; no command of today starts any.
+pub fn hop<R, F, V, O, G>(
+    rt: &R,
+    alloc: Global,
+    words: &Words,
+    folder: F,
+    spills: Vec<V>,
+    out: &mut O,
+    gate: &G,
+) -> Handed<Outcome, F, V>
+where
+    R: Threads + Wait + Copy + Send + Sync,
+    F: Folder + Send,
+    V: Folder + Send,
+    O: Sink,
+    G: Gate + Sync,
+    requires { vec_len spills ≡ 8 }
+    ensures meets { Meets (F.seen folder) (F.seen result.folder) (O.seen out.old) (O.seen out.new) (asked words.now) result.answer }
+    ensures spills { map V.seen result.spills.items ≡ map V.seen spills.items }
+{
+    let _ = rt;
+    let _ = gate;
+    hop_plain(alloc, words, folder, spills, out)
+}

@@ -1,0 +1,5 @@
+pub mod ClapAgrees
+pub mod ClapRules
+pub mod ClapRows
+pub mod ClapWalk
+pub mod NumberLaws

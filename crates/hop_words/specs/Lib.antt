@@ -1,0 +1,6 @@
+pub mod Clap
+pub mod Names
+pub mod Numbers
+pub mod Options
+pub mod Scan
+pub mod Table
