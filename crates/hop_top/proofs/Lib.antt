@@ -1,3 +1,4 @@
+pub mod CompleteLaws
 pub mod MeetsLemmas
 pub mod PartLaws
 pub mod PutsLemmas

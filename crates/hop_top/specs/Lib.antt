@@ -1,3 +1,4 @@
+pub mod Complete
 pub mod Meets
 pub mod Puts
 pub mod Reads

@@ -1,10 +1,14 @@
 //! Worked runs of the whole call over folders in memory, and what follows from its contract alone.
 ghost use Rattle.std.specs.Prelude.{◌≡◌, ◌≢◌, ◌⊎◌, None, Some, IfOk, vec_len};
-ghost use Rattle.hop_words.specs.Options.{asked};
+ghost use Rattle.hop_base.specs.Files.{Files};
+ghost use Rattle.hop_ports.specs.Clean.{clean_view};
+ghost use Rattle.hop_words.specs.Options.{AskedOptions, asked};
+ghost use Rattle.hop_top.specs.Complete.{NoneRose};
+ghost use Rattle.hop_top.specs.Work.{Accepted, IsRead};
 
 use crate::{File, Handed, Outcome, Refusal, fault_line, hop, hop_plain, status};
 use hop_base::{NoMemory, Words};
-use hop_ports::{CleanFolder, Folder, GetFault, MemFolder, MemSink, OpenGate};
+use hop_ports::{CleanFolder, Folder, GetFault, MemFolder, MemSink, OpenGate, Sink};
 use std::alloc::{AllocError, Global};
 use std::test::Fail;
 
@@ -98,6 +102,38 @@ fn usage<F: Folder + Drop>(
     ensures { (result ≡ Outcome.Usage) ⊎ (result ≡ Outcome.NoMemory) }
 {
     hop_plain(alloc, words, folder, spills, out).answer
+}
+
+// A file that is there is read, where no get fails.
+fn over_clean_present(
+    alloc: Global,
+    words: &Words,
+    folder: CleanFolder,
+    spills: Vec<CleanFolder>,
+    out: &mut MemSink,
+) -> Outcome
+    requires { vec_len spills ≡ 8 }
+    ensures { (options : AskedOptions) (files : Files) (file : File) → asked words.now ≡ Some options → (clean_view folder).held ≡ Some files
+        → IsRead options.command files → result ≢ Outcome.InputFailed file }
+{
+    hop_plain(alloc, words, folder, spills, out).answer
+}
+
+// Where the words, the files and the records are accepted and no count of faults rose, the call is
+// done, or memory is wanting.
+fn accepted<F: Folder, V: Folder, O: Sink>(
+    alloc: Global,
+    words: &Words,
+    folder: F,
+    spills: Vec<V>,
+    out: &mut O,
+) -> Handed<Outcome, F, V>
+    requires { vec_len spills ≡ 8 }
+    ensures { (options : AskedOptions) (files : Files) → asked words.now ≡ Some options → (F.seen folder).held ≡ Some files
+        → Accepted options.command options.settings files → NoneRose (F.seen folder) (F.seen result.folder) (O.seen out.old) (O.seen out.new)
+        → (result.answer ≡ Outcome.Done) ⊎ (result.answer ≡ Outcome.NoMemory) }
+{
+    hop_plain(alloc, words, folder, spills, out)
 }
 
 #[test]
@@ -316,5 +352,21 @@ fn laws_hold_at_a_call(rt: HostRuntime) -> Result<(), Fail> {
         &mut out,
     );
     assert_eq!(rt; answer, Outcome::Done);
+    let answer = over_clean_present(
+        alloc,
+        &asks,
+        with_input(alloc, b"a\n")?,
+        eight(alloc)?,
+        &mut out,
+    );
+    assert_eq!(rt; answer, Outcome::Done);
+    let handed = accepted(
+        alloc,
+        &asks,
+        with_input(alloc, b"a\n")?,
+        eight(alloc)?,
+        &mut out,
+    );
+    assert_eq!(rt; handed.answer, Outcome::Done);
     Ok(())
 }
