@@ -8,7 +8,7 @@ use crate::merging::merge_all;
 use hop_base::{NoMemory, Part, Text};
 use hop_jobs::{Known, Wc};
 use hop_laws::Job;
-use hop_records::Book;
+use hop_records::{Book, BookFault};
 use hop_run::{Message, Parcel, Run, Runs};
 use std::alloc::{AllocError, Global};
 use std::test::Fail;
@@ -67,7 +67,7 @@ fn combined_and_merged<J: Job>(
     Ok(text)
 }
 
-// The pairs of a run: each key and the low byte of its number as a digit.
+// The pairs of a run: each key and the last digit of its number.
 fn shown(alloc: Global, run: &Run) -> Result<Vec<u8>, AllocError> {
     let mut text = Vec::new(alloc);
     for pair in run.sheet().as_slice() {
@@ -77,64 +77,105 @@ fn shown(alloc: Global, run: &Run) -> Result<Vec<u8>, AllocError> {
     Ok(text)
 }
 
-#[test]
-fn runs_of_two_records(rt: HostRuntime) -> Result<(), Fail> {
-    let alloc = rt.alloc();
-    let wc = Known::Wc(Wc);
-    let book = Book::read(alloc, b"b a\nb\n", 2)?;
-    assert_eq!(rt; book.splits(), 1);
-    assert_eq!(rt; book.len(0), 2);
-    let part = Part {
+fn two_records(alloc: Global) -> Result<Book, BookFault> {
+    Book::read(alloc, b"b a\nb\n", 2)
+}
+
+// Records of the only split of two.
+fn part(from: u32, to: u32) -> Part
+    requires { from ≤ to }
+    ensures split { result.split ≡ 0 }
+    ensures from { result.from ≡ from }
+    ensures to { result.to ≡ to }
+{
+    Part {
         split: 0,
         attempt: 0,
-        from: 0,
-        to: 2,
+        from,
+        to,
+    }
+}
+
+// The run of a part of the two records.
+fn made(alloc: Global, part: Part) -> Result<Run, NoMemory>
+    requires { part.from ≤ part.to }
+{
+    let Ok(book) = two_records(alloc) else {
+        return Err(NoMemory);
     };
-    let run = Run::make(alloc, &wc, &book, part, 0, 1)?;
+    if part.split < book.splits() && part.to <= book.len(part.split) {
+        Run::make(alloc, &Known::Wc(Wc), &book, part, 0, 1)
+    } else {
+        Err(NoMemory)
+    }
+}
+
+// The texts that both orders of merging and combining give of the two records.
+fn in_both_orders(alloc: Global, a: Part, b: Part) -> Result<(Text, Text), NoMemory>
+    requires first { a.from ≤ a.to }
+    requires second { b.from ≤ b.to }
+{
+    let Ok(book) = two_records(alloc) else {
+        return Err(NoMemory);
+    };
+    let splits = book.splits();
+    if a.split < splits
+        && b.split < splits
+        && a.to <= book.len(a.split)
+        && b.to <= book.len(b.split)
+    {
+        let one = merged_and_combined(alloc, &Wc, &book, a, b)?;
+        let other = combined_and_merged(alloc, &Wc, &book, b, a)?;
+        Ok((one, other))
+    } else {
+        Err(NoMemory)
+    }
+}
+
+#[test]
+fn makes_combines_and_reduces(rt: HostRuntime) -> Result<(), Fail> {
+    let alloc = rt.alloc();
+    let run = made(alloc, part(0, 2))?;
     assert_eq!(rt; shown(alloc, &run)?.as_slice(), b"a1b1b1".as_slice());
-    let combined = Run::combine(alloc, &wc, &run)?;
+    let text = Run::reduce(alloc, &Wc, &run)?;
+    assert_eq!(rt; text.as_slice(), b"a\t1\nb\t2\n".as_slice());
+    let combined = Run::combine(alloc, &Wc, &run)?;
     assert_eq!(rt; shown(alloc, &combined)?.as_slice(), b"a1b2".as_slice());
-    assert_eq!(rt; combined.parts(), [part].as_slice());
-    let text = Run::reduce(alloc, &wc, &run)?;
+    let text = Run::reduce(alloc, &Wc, &combined)?;
     assert_eq!(rt; text.as_slice(), b"a\t1\nb\t2\n".as_slice());
-    let text = Run::reduce(alloc, &wc, &combined)?;
-    assert_eq!(rt; text.as_slice(), b"a\t1\nb\t2\n".as_slice());
-    let message = Message::Parcel(Parcel { part, run });
-    assert!(rt; matches!(message, Message::Parcel(_)));
     Ok(())
 }
 
 #[test]
 fn merges_many_runs(rt: HostRuntime) -> Result<(), Fail> {
     let alloc = rt.alloc();
-    let wc = Known::Wc(Wc);
     let none = merge_all(alloc, &[])?;
-    assert_eq!(rt; shown(alloc, &none)?.as_slice(), b"".as_slice());
+    assert_eq!(rt; none.sheet().as_slice().len(), 0);
     assert_eq!(rt; none.parts().len(), 0);
-    let book = Book::read(alloc, b"b a\nb\n", 2)?;
-    assert_eq!(rt; book.splits(), 1);
-    assert_eq!(rt; book.len(0), 2);
-    let first = Part {
-        split: 0,
-        attempt: 0,
-        from: 0,
-        to: 1,
-    };
-    let second = Part {
-        split: 0,
-        attempt: 0,
-        from: 1,
-        to: 2,
-    };
     let mut runs = Runs::new(alloc);
-    runs.push(Run::make(alloc, &wc, &book, first, 0, 1)?)?;
-    runs.push(Run::make(alloc, &wc, &book, second, 0, 1)?)?;
+    runs.push(made(alloc, part(0, 1))?)?;
+    runs.push(made(alloc, part(1, 2))?)?;
     let all = merge_all(alloc, runs.as_slice())?;
     assert_eq!(rt; shown(alloc, &all)?.as_slice(), b"a1b1b1".as_slice());
-    assert_eq!(rt; all.parts(), [first, second].as_slice());
-    let text = merged_and_combined(alloc, &wc, &book, first, second)?;
-    assert_eq!(rt; text.as_slice(), b"a\t1\nb\t2\n".as_slice());
-    let text = combined_and_merged(alloc, &wc, &book, second, first)?;
-    assert_eq!(rt; text.as_slice(), b"a\t1\nb\t2\n".as_slice());
+    assert_eq!(rt; all.parts(), [part(0, 1), part(1, 2)].as_slice());
+    Ok(())
+}
+
+#[test]
+fn merges_and_combines_in_both_orders(rt: HostRuntime) -> Result<(), Fail> {
+    let alloc = rt.alloc();
+    let (one, other) = in_both_orders(alloc, part(0, 1), part(1, 2))?;
+    assert_eq!(rt; one.as_slice(), b"a\t1\nb\t2\n".as_slice());
+    assert_eq!(rt; other.as_slice(), b"a\t1\nb\t2\n".as_slice());
+    Ok(())
+}
+
+#[test]
+fn a_parcel_is_a_message(rt: HostRuntime) -> Result<(), Fail> {
+    let alloc = rt.alloc();
+    let part = part(0, 1);
+    let run = made(alloc, part)?.copy()?;
+    let message = Message::Parcel(Parcel { part, run });
+    assert!(rt; matches!(message, Message::Parcel(_)));
     Ok(())
 }
