@@ -1,5 +1,5 @@
 //! Sheets: pairs in order.
-ghost use Rattle.std.specs.Prelude.{◌≡◌, ◌++◌, IfOk, OnOk, IsPermutation};
+ghost use Rattle.std.specs.Prelude.{◌≡◌, ◌++◌, IfOk, OnOk, IsPermutation, IsSorted};
 ghost use Rattle.hop_base.specs.Order.{IsSheet, pair_cmp};
 ghost use Rattle.hop_base.specs.Sorted.{ord};
 
@@ -33,6 +33,16 @@ impl Sheet {
         ensures sheet { IsSheet result }
     {
         pairs.sort_unstable();
+        Pair::all_known(&pairs);
+        Sheet { pairs }
+    }
+
+    /// A sheet of pairs that are in order already. It takes no memory.
+    pub fn from_sorted(pairs: Vec<Pair>) -> Sheet
+        requires { IsSorted pair_cmp pairs.items }
+        ensures exact { result ≡ pairs.items }
+        ensures sheet { IsSheet result }
+    {
         Pair::all_known(&pairs);
         Sheet { pairs }
     }

@@ -1,0 +1,7 @@
+pub mod Combined
+pub mod Emitted
+pub mod GroupLaws
+pub mod Keys
+pub mod Lines
+pub mod StandsLaws
+pub mod Values

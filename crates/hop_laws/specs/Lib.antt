@@ -1,0 +1,5 @@
+pub mod Blocking
+pub mod Groups
+pub mod Laws
+pub mod Partition
+pub mod Stands

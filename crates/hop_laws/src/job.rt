@@ -1,0 +1,50 @@
+//! The trait of jobs.
+ghost use Rattle.std.specs.Prelude.{◌≡◌, ◌≤◌, ◌<◌, ◌++◌, length, IsSorted, IfOk, OnOk, OnErr};
+ghost use Rattle.hop_base.specs.Meaning.{Meaning};
+ghost use Rattle.hop_base.specs.Order.{val_cmp};
+ghost use Rattle.hop_laws.specs.Laws.{IsLawful};
+
+use hop_base::{Blob, NoMemory, Pair, Val};
+use std::alloc::Global;
+
+/// A job of map and reduce with a combiner, as in MapReduce (OSDI 2004): map emits pairs for each
+/// record, and reduce writes text for each key and its values. Combine may replace values of a key
+/// by fewer, as often as one likes, before they are reduced.
+pub trait Job {
+    /// What its calls give, as functions of a record, and of a key with its values in order.
+    ghost meaning: { Self → Meaning };
+
+    /// The job's name, of one or more bytes, without line feed and space. `NoMemory` comes where
+    /// there is no memory for it.
+    fn name(&self, alloc: Global) -> Result<Blob, NoMemory>
+        ensures { IfOk result (λ name. name ≡ (meaning self.now).name) };
+
+    /// The pairs that it emits for a record of at most 131,050 bytes, in order.
+    fn map(&self, alloc: Global, line: &[u8]) -> Result<Vec<Pair>, NoMemory>
+        requires { length line.now ≤ 131050 }
+        ensures { IfOk result (λ pairs. pairs.items ≡ (meaning self.now).emits line.now) };
+
+    /// What these values of the key, one or more in order, are combined to. After `NoMemory` they
+    /// are gone.
+    fn combine(&self, alloc: Global, key: &Blob, vals: Vec<Val>) -> Result<Vec<Val>, NoMemory>
+        requires some { 0 < length vals.items }
+        requires sorted { IsSorted val_cmp vals.items }
+        ensures { IfOk result (λ kept. kept.items ≡ (meaning self.now).combined key.now vals.items) };
+
+    /// Appends the text for the key and its values, one or more in order. After `NoMemory` the text
+    /// is as before.
+    fn reduce(
+        &self,
+        alloc: Global,
+        key: &Blob,
+        vals: &[Val],
+        out: &mut Vec<u8>,
+    ) -> Result<(), NoMemory>
+        requires some { 0 < length vals.now }
+        requires sorted { IsSorted val_cmp vals.now }
+        ensures ok { OnOk result (out.new.items ≡ out.old.items ++ (meaning self.now).reduced key.now vals.now) }
+        ensures err { OnErr result (out.new.items ≡ out.old.items) };
+
+    /// Every job of the type meets the laws.
+    ghost lawful: { (j : Self) → IsLawful (meaning j) };
+}
