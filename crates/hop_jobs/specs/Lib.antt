@@ -1,4 +1,14 @@
 pub mod Adding
 pub mod AddingLaws
+pub mod Known
+pub mod KnownLaws
+pub mod Max
+pub mod MaxLaws
+pub mod Numbered
+pub mod NumberedLaws
+pub mod Sum
+pub mod SumLaws
+pub mod Top
+pub mod TopLaws
 pub mod Wc
 pub mod WcLaws

@@ -1,11 +1,11 @@
 -- The job that counts words meets the laws.
-use Rattle.std.proofs.Common.{◌≡◌, ℕ, ◌+◌, ◌*◌, ◌≤◌, Bool, true, false, cond, ◌||◌, List, [], ◌∷◌, length, map, subst, arith}
+use Rattle.std.proofs.Common.{◌≡◌, ℕ, ◌+◌, ◌*◌, ◌≤◌, Bool, true, false, cond, ◌||◌, List, [], ◌∷◌, length, subst, arith}
 use Rattle.std.specs.Prelude.{◌≢◌, All, filter, ◌==◌, codes}
 use Rattle.std.specs.List.{slice_split, onto_first, AllByRecursion}
 use Rattle.std.proofs.lemmas.List.{length-map}
 use Rattle.std.proofs.lemmas.List.Elements.{All-from_recursion, All-map, All-filter, All-weaker}
 use Rattle.hop_base.specs.declared.value.Pair.{Pair}
-use Rattle.hop_base.specs.Order.{IsValid, IsValidPair}
+use Rattle.hop_base.specs.Order.{IsValidPair}
 use Rattle.hop_laws.specs.Laws.{EmitsWell, IsName, IsLawful}
 use Rattle.hop_jobs.specs.AddingLaws.{sum_combines_well, sum_reduces_alike, sum_writes_lines}
 use Rattle.hop_jobs.specs.Wc.{is_some_part, piece_pair, pieces_of, wc_emits, wc_meaning}

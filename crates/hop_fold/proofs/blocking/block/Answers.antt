@@ -1,0 +1,27 @@
+use Rattle.std.proofs.Common.{◌≡◌, ◌+◌, ◌<◌, ℕ, List, [], ◌∷◌, ◌++◌, length, take, sym, ap, subst, ◌∙◌, arith}
+use Rattle.std.proofs.lemmas.List.{take_more, take_all}
+use Rattle.std.proofs.lemmas.Option.{get_or_from_slice_get}
+use Rattle.hop_fold.specs.Gathering.{Gathers}
+use Rattle.hop_fold.proofs.GatheringLaws.{texts_gathered}
+use Rattle.hop_fold.proofs.blocking.block.Goals as goal
+
+-- one more record is mapped
+pub loop-k-preserved : goal.loop-k-preserved
+loop-k-preserved g c =
+    let meaning = g.J.Job.meaning c.args.job.now in
+    let k : ℕ = c.loop-k.k in
+    let records : List (List ℕ) = c.args.book.now.records in
+    let inside : k < length records = omega (arith, c.records-k-end.ensures) in
+    let more : take (k + 1) records ≡ take k records ++ c.record.result.now ∷ [] =
+    take_more records k [] inside ∙ ap (λ line. take k records ++ line ∷ []) (get_or_from_slice_get records k c.record.result.now [] c.record.ensures.value) in
+    record {
+      same = c.in_ok-gather.ensures.same ∙ c.loop-k.invariant.same;
+      gathers = subst (λ (rs : List (List ℕ)). Gathers meaning rs c.gather.new.lists.items) (sym more) (c.in_ok-gather.ensures.gathers (take k records) c.loop-k.invariant.gathers);
+    }
+
+pub returns : goal.returns
+returns g c =
+    let meaning = g.J.Job.meaning c.args.job.now in
+    let records : List (List ℕ) = c.args.book.now.records in
+    let all : take c.loop-k.k records ≡ records = take_all c.loop-k.k records (omega (arith, c.records-k-end.ensures)) in
+    c.in_ok-texts.ensures ∙ texts_gathered meaning records c.loop-k.lists.items c.args.r c.loop-k.invariant.same (subst (λ (rs : List (List ℕ)). Gathers meaning rs c.loop-k.lists.items) all c.loop-k.invariant.gathers)

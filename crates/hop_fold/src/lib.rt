@@ -1,0 +1,10 @@
+//! The blocking job: map all records, group the pairs by key, and reduce each key once.
+#![tactic(auto)]
+
+pub mod blocking;
+mod gathered;
+mod lines;
+#[cfg(test)]
+mod tests;
+
+pub use blocking::{block, block_lines};

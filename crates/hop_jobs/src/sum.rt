@@ -1,0 +1,42 @@
+//! The job that adds up numbers.
+use crate::numbers::{append_line, one_number, sum};
+use crate::record::numbered;
+use hop_base::{Blob, NoMemory, Pair, Val};
+use hop_laws::Job;
+use std::alloc::Global;
+
+/// Adds up the numbers of each key, up to 2^64 - 1. A record is a key, a tab and 1 to 20 decimal
+/// digits of a number below 2^64; any other record emits nothing. Its name is `sum`.
+#[derive(Clone, Copy, Debug)]
+pub struct Sum;
+
+impl Job for Sum {
+    ghost use Rattle.hop_jobs.specs.Sum.{sum_meaning};
+    ghost use Rattle.hop_jobs.specs.SumLaws.{sum_lawful};
+
+    ghost meaning = { λ _. sum_meaning };
+
+    ghost lawful = { λ _. sum_lawful };
+
+    fn name(&self, alloc: Global) -> Result<Blob, NoMemory> {
+        Blob::from_short(alloc, b"sum")
+    }
+
+    fn map(&self, alloc: Global, line: &[u8]) -> Result<Vec<Pair>, NoMemory> {
+        numbered(alloc, line)
+    }
+
+    fn combine(&self, alloc: Global, _key: &Blob, vals: Vec<Val>) -> Result<Vec<Val>, NoMemory> {
+        one_number(alloc, sum(&vals))
+    }
+
+    fn reduce(
+        &self,
+        _alloc: Global,
+        key: &Blob,
+        vals: &[Val],
+        out: &mut Vec<u8>,
+    ) -> Result<(), NoMemory> {
+        append_line(out, key.as_slice(), sum(vals))
+    }
+}
