@@ -23,7 +23,7 @@ pub text_of-append : (xs ys : List (List ℕ)) → text_of (xs ++ ys) ≡ text_o
 text_of-append [] ys = refl
 text_of-append (x ∷ xs) ys = ap (λ t. x ++ (10 ∷ t)) (text_of-append xs ys) ∙ sym (append_assoc x (10 ∷ text_of xs) (text_of ys))
 
-split_lines-more : (j : ℕ) (xs : List (Option SplitLine)) (s : Option SplitLine) → split_lines j (xs ++ s ∷ []) ≡ split_lines j xs ++ split_line (j + length xs) s ∷ []
+pub split_lines-more : (j : ℕ) (xs : List (Option SplitLine)) (s : Option SplitLine) → split_lines j (xs ++ s ∷ []) ≡ split_lines j xs ++ split_line (j + length xs) s ∷ []
 split_lines-more j [] s = let e : j ≡ j + 0 = omega arith in ap (λ i. split_line i s ∷ []) e
 split_lines-more j (x ∷ xs) s =
     let e : j + 1 + length xs ≡ j + length (x ∷ xs) = omega arith in

@@ -3,3 +3,4 @@ pub mod HeadLaws
 pub mod LineLaws
 pub mod NameLaws
 pub mod NumberLaws
+pub mod TextLaws

@@ -1,3 +1,4 @@
+pub mod Covered
 pub mod Lines
 pub mod Numbers
 pub mod Parts

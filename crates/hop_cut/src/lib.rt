@@ -1,8 +1,11 @@
 //! Snapshots: what a reducer's history covers when it first reaches a mark, and its text.
 #![tactic(auto)]
 
+pub mod cut;
 pub mod head;
 mod lines;
 mod numbers;
+mod texts;
 
-pub use head::{cut_read, SnapFault, SnapHead, SplitLine};
+pub use cut::{Cut, Cuts, cut_text, whole_sheet};
+pub use head::{SnapFault, SnapHead, SplitLine, cut_read};
