@@ -1,0 +1,9 @@
+pub mod Chains
+pub mod CutLaws
+pub mod JournalLaws
+pub mod OwnerLaws
+pub mod Places
+pub mod RecordLaws
+pub mod ShelfLaws
+pub mod SoundLaws
+pub mod Together
