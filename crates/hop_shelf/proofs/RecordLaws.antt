@@ -1,8 +1,11 @@
 -- What map emits for a part is what it emits for the part's records.
-use Rattle.std.proofs.Common.{◌≡◌, ℕ, zero, suc, ◌+◌, ◌-◌, ◌*◌, ◌<◌, ◌≤◌, List, [], ◌∷◌, ◌++◌, length, take, drop, slice_index, refl, sym, ap, ◌∙◌, arith}
+use Rattle.std.proofs.Common.{◌≡◌, ℕ, zero, suc, ◌+◌, ◌-◌, ◌*◌, ◌%◌, ◌<◌, ◌≤◌, ◌⊎◌, inl, inr, List, [], ◌∷◌, ◌++◌, length, take, drop, slice_index, refl, sym, ap, ◌∙◌, arith}
 use Rattle.std.proofs.Math.Seq.{take-add}
+use Rattle.std.proofs.Math.Nat.{mod-zero}
+use Rattle.std.proofs.lemmas.Bool.{cases_lt}
+use Rattle.hop_base.specs.Ranges.{AreLens}
 use Rattle.std.specs.List.{flat_map, range_with_len}
-use Rattle.std.proofs.lemmas.List.{drop-drop, take_all}
+use Rattle.std.proofs.lemmas.List.{drop-drop, take_all, length-take}
 use Rattle.std.proofs.lemmas.List.FromFn.{length-map-range_with_len, get_or-map-range_with_len}
 use Rattle.std.proofs.lemmas.Grind.{div_ceil_times}
 use Rattle.hop_records.specs.Records.{BookValue, splits_of, len_of, lens_of}
@@ -59,8 +62,25 @@ flat_single : {X Y : Type 0} (f : X → List Y) (g : ℕ → X) (is : List ℕ) 
 flat_single f g [] = refl
 flat_single f g (i ∷ is) = ap (λ ys. f (g i) ++ ys) (flat_single f g is)
 
-whole_records : (records : List (List ℕ)) (settings : RunSettings) → 1 ≤ settings.split → flat_map (part_records records settings.split) (whole_parts (lens_of (book_of records settings))) ≡ records
-whole_records records settings some =
+-- splits that each have a record have room for all of them
+enough : (records : List (List ℕ)) (settings : RunSettings) → AreLens (lens_of (book_of records settings)) → length records ≤ splits_of (book_of records settings) * settings.split
+enough records settings ranges = by_size (cases_lt 0 settings.split) (cases_lt 0 (length records))
+  where
+    by_size : (0 < settings.split) ⊎ (settings.split ≤ 0) → (0 < length records) ⊎ (length records ≤ 0) → length records ≤ splits_of (book_of records settings) * settings.split
+    by_size (inl some) o = (div_ceil_times (length records) settings.split some).0
+    by_size (inr none) (inr empty) = omega arith
+    by_size (inr none) (inl full) =
+        let book : BookValue = book_of records settings in
+        let zero_split : settings.split ≡ 0 = omega arith in
+        let rest : length records % settings.split ≡ length records = ap (λ n. length records % n) zero_split ∙ mod-zero (length records) in
+        let splits : 0 < splits_of book = omega (arith, rest, full) in
+        let one : 0 < length (lens_of book) = omega (arith, length-map-range_with_len (len_of book) 0 (splits_of book), splits) in
+        let first = get_or-map-range_with_len (len_of book) 0 (splits_of book) 0 0 0 splits (omega arith) in
+        let low = (ranges.each 0 0 one).some in
+        absurd (omega (arith, low, first, length-take settings.split (drop (0 * settings.split) records), zero_split))
+
+whole_records : (records : List (List ℕ)) (settings : RunSettings) → AreLens (lens_of (book_of records settings)) → flat_map (part_records records settings.split) (whole_parts (lens_of (book_of records settings))) ≡ records
+whole_records records settings ranges =
     let n : ℕ = settings.split in
     let book : BookValue = book_of records settings in
     let lens : List ℕ = lens_of book in
@@ -73,16 +93,15 @@ whole_records records settings some =
         ap (λ l. take l (drop (i * n + 0) records)) whole ∙ ap (λ p. take (length (take n (drop (i * n) records))) (drop p records)) place ∙ take_own n (drop (i * n) records)
     in
     let none : 0 * n ≡ 0 = omega arith in
-    let enough : length records ≤ splits * n = (div_ceil_times (length records) n (omega arith)).0 in
     flat_single (part_records records n) (whole_split lens) (range_with_len 0 (length lens))
     ∙ ap (λ k. flat_map (λ i. part_records records n (whole_split lens i)) (range_with_len 0 k)) count
     ∙ flat_same_in (λ i. part_records records n (whole_split lens i)) (λ i. take n (drop (i * n) records)) 0 splits each
     ∙ split_by_split records n 0 splits
     ∙ ap (λ l. take (splits * n) (drop l records)) none
-    ∙ take_all (splits * n) records enough
+    ∙ take_all (splits * n) records (enough records settings ranges)
 
 -- the pairs of all splits are those of all records
-pub whole_emitted : (job : Meaning) (records : List (List ℕ)) (settings : RunSettings) (p : ℕ) → 1 ≤ settings.split → flat_map (pairs_of job records settings p) (whole_parts (lens_of (book_of records settings))) ≡ emitted job records p settings.reducers
-whole_emitted job records settings p some =
+pub whole_emitted : (job : Meaning) (records : List (List ℕ)) (settings : RunSettings) (p : ℕ) → AreLens (lens_of (book_of records settings)) → flat_map (pairs_of job records settings p) (whole_parts (lens_of (book_of records settings))) ≡ emitted job records p settings.reducers
+whole_emitted job records settings p ranges =
     emitted_parts job records settings.split p settings.reducers (whole_parts (lens_of (book_of records settings)))
-    ∙ ap (λ rs. emitted job rs p settings.reducers) (whole_records records settings some)
+    ∙ ap (λ rs. emitted job rs p settings.reducers) (whole_records records settings ranges)

@@ -25,5 +25,4 @@ pairs_of job records settings p part = part_pairs job records settings.split p s
 pub record IsRun (job : Meaning) (records : List (List ℕ)) (settings : RunSettings) : Type 0 where
   pub lawful : IsLawful job
   pub short : All (λ line. length line ≤ 131050) records
-  pub some : 1 ≤ settings.split
   pub limit : settings.attempts ≤ 16

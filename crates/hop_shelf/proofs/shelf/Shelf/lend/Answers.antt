@@ -16,7 +16,7 @@ returns-in_ok-second-in-Some g c =
         (
           c.in-Some.n,
           mergeable_read c.self.inside.kept.items c.in-Some.m c.in-Some.n c.index.result.now c.index-in-Some-2.result.now c.index-in-Some.result.now c.index-in-Some-3.result.now c.in_ok-first-in-Some.first c.in_ok-second-in-Some.second
-              (subst (λ (kept : List Kept). (c.in-Some.m < c.in-Some.n) × (c.in-Some.n < length kept) × ((kept_at kept c.in-Some.m).owner ≡ (kept_at kept c.in-Some.n).owner)) c.deref.ensures.value c.in-Some.ensures.found)
+              (subst (λ (kept : List Kept). (c.in-Some.m < c.in-Some.n) × (c.in-Some.n < length kept) × ((kept_at kept c.in-Some.m).owner ≡ (kept_at kept c.in-Some.n).owner)) c.deref.ensures.value (rw c.in-Some.is at c.in_ok-pair_of_one_owner.ensures.found))
               c.index.ensures c.index-in-Some-2.ensures c.index-in-Some.ensures c.index-in-Some-3.ensures c.in_ok-first-in-Some.ensures c.in_ok-second-in-Some.ensures,
         ),
       ),
