@@ -1,11 +1,11 @@
 -- A job of the tests, which counts records by their first byte.
-use Rattle.std.specs.Prelude.{ℕ, ◌+◌, ◌≤◌, ◌≢◌, List, [], ◌∷◌, length, take, All, codes}
+use Rattle.std.specs.Prelude.{ℕ, ◌≤◌, ◌≢◌, List, [], ◌∷◌, length, take, codes}
 use Rattle.std.proofs.Common.{arith}
 use Rattle.std.proofs.lemmas.List.{length-take}
 use Rattle.std.proofs.lemmas.List.Elements.{All-nil, All-cons, All-from_recursion}
 use Rattle.hop_base.specs.declared.value.Pair.{Pair}
 use Rattle.hop_base.specs.Meaning.{Meaning}
-use Rattle.hop_base.specs.Order.{IsValid, IsValidPair}
+use Rattle.hop_base.specs.Order.{IsValidPair}
 use Rattle.hop_jobs.specs.Adding.{number, sum_combined, sum_reduced}
 use Rattle.hop_jobs.specs.AddingLaws.{sum_combines_well, sum_reduces_alike, sum_writes_lines}
 use Rattle.hop_laws.specs.Laws.{EmitsWell, IsName, IsLawful}

@@ -1,5 +1,5 @@
 -- What map emits for records.
-use Rattle.std.proofs.Common.{◌≡◌, ℕ, ◌+◌, ◌-◌, ◌*◌, ◌≤◌, List, [], ◌∷◌, ◌++◌, length, take, drop, ap, ◌∙◌}
+use Rattle.std.proofs.Common.{◌≡◌, ℕ, ◌+◌, ◌-◌, ◌*◌, ◌≤◌, List, [], ◌∷◌, ◌++◌, length, drop, ap, ◌∙◌}
 use Rattle.std.specs.Prelude.{All, ◌==◌}
 use Rattle.std.specs.List.{flat_map}
 use Rattle.std.proofs.lemmas.List.{append-nil}
@@ -10,7 +10,7 @@ use Rattle.hop_base.specs.declared.value.Pair.{Pair}
 use Rattle.hop_base.specs.Meaning.{Meaning}
 use Rattle.hop_base.specs.Order.{IsValidPair}
 use Rattle.hop_laws.specs.Blocking.{emitted, part_records, part_pairs}
-use Rattle.hop_laws.specs.Laws.{EmitsWell, IsLawful}
+use Rattle.hop_laws.specs.Laws.{IsLawful}
 use Rattle.hop_laws.specs.Partition.{partition_of, of_partition}
 
 -- of some records and then others

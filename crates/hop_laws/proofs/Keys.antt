@@ -13,7 +13,7 @@ use Rattle.std.proofs.lemmas.List.Sorted.{list_any-IsPermutation}
 use Rattle.std.proofs.lemmas.Bool.{true≢false, false≢true}
 use Rattle.hop_base.specs.declared.value.Pair.{Pair}
 use Rattle.hop_base.specs.Order.{key_cmp}
-use Rattle.hop_base.proofs.Sorted.{IsUptoAll, IsAscending, count, SameItems, same_ascending}
+use Rattle.hop_base.proofs.Sorted.{IsUptoAll, IsAscending, count, same_ascending}
 use Rattle.hop_base.proofs.OrderLaws.{key_total, key_exact}
 use Rattle.hop_laws.specs.Groups.{has_key, add_key, keys_of}
 

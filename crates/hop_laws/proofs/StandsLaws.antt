@@ -1,23 +1,19 @@
 -- What merging and combining do to what a sheet stands for.
-use Rattle.std.proofs.Common.{◌≡◌, ℕ, ◌+◌, ◌<◌, Bool, true, false, cond, ◌||◌, if◌then◌else◌, List, [], ◌∷◌, ◌++◌, length, map, refl, sym, ap, ◌∙◌, subst, inl, inr, arith, append_assoc}
+use Rattle.std.proofs.Common.{◌≡◌, ℕ, ◌<◌, Bool, true, false, cond, ◌||◌, List, [], ◌∷◌, ◌++◌, length, map, refl, sym, ap, ◌∙◌, subst, inl, inr, arith}
 use Rattle.std.specs.Prelude.{All, filter}
 use Rattle.std.specs.List.{list_any, flat_map}
 use Rattle.std.specs.Str.{bytes_eq}
 use Rattle.std.specs.List.Sorted.{IsPermutation}
-use Rattle.std.specs.Ordering.{is_eq}
-use Rattle.std.specs.declared.cmp.Ordering.TheVariants.{Less}
-use Rattle.std.specs.Cmp.Lexicographic.{texts_ties}
 use Rattle.std.proofs.lemmas.Slice.Eq.{bytes_eq-Decides}
 use Rattle.std.proofs.lemmas.List.{append-nil}
 use Rattle.std.proofs.lemmas.List.Elements.{All-append, All-map, All-filter, All-weaker, All-nil}
-use Rattle.std.proofs.lemmas.List.Folds.{list_any-append}
 use Rattle.std.proofs.lemmas.Bool.{true≢false, false≢true, cases_Bool}
 use Rattle.hop_base.specs.declared.value.Val.{Val}
 use Rattle.hop_base.specs.declared.value.Pair.{Pair}
-use Rattle.hop_base.specs.Order.{key_cmp, val_cmp, IsValid, IsValidPair}
+use Rattle.hop_base.specs.Order.{val_cmp, IsValid, IsValidPair}
 use Rattle.hop_base.specs.Sorted.{ord}
 use Rattle.hop_base.proofs.Sorted.{count, count-append, SameItems, ord_same}
-use Rattle.hop_base.proofs.OrderLaws.{key_total, val_total, val_exact}
+use Rattle.hop_base.proofs.OrderLaws.{val_total, val_exact}
 use Rattle.hop_laws.specs.Groups.{has_key, values_of, keys_of, red}
 use Rattle.hop_laws.specs.Stands.{StandsFor, pairs_at, combined_pairs}
 use Rattle.hop_laws.specs.Laws.{AlwaysCombinesWell, ReducesAlike}

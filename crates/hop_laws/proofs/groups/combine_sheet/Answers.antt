@@ -1,8 +1,7 @@
-use Rattle.std.proofs.Common.{List, sym, ap, subst, ◌∙◌}
+use Rattle.std.proofs.Common.{List, sym, subst}
 use Rattle.std.specs.Prelude.{All, IsSorted}
 use Rattle.hop_base.specs.declared.value.Pair.{Pair}
 use Rattle.hop_base.specs.Order.{pair_cmp, IsValidPair}
-use Rattle.hop_laws.specs.Stands.{combined_pairs}
 use Rattle.hop_laws.proofs.Combined.{combined_sorted}
 use Rattle.hop_laws.proofs.groups.combine_sheet.Goals as goal
 

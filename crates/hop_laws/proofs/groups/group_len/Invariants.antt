@@ -1,4 +1,4 @@
-use Rattle.std.proofs.Common.{ℕ, ◌-◌, ◌<◌, ◌≤◌, take, length}
+use Rattle.std.proofs.Common.{◌-◌, ◌<◌, ◌≤◌, take, length}
 use Rattle.hop_laws.specs.Groups.{first_key, AllHaveKey}
 use Rattle.hop_laws.proofs.groups.group_len.Given as goal
 

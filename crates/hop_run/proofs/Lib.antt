@@ -1,0 +1,3 @@
+pub mod MappingLaws
+pub mod MergeLaws
+pub mod RunLaws

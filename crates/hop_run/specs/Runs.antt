@@ -1,0 +1,19 @@
+-- A run: a sheet, and the parts that it was made of.
+use Rattle.std.specs.Prelude.{ℕ, List, []}
+use Rattle.std.specs.List.{flat_map}
+use Rattle.hop_base.specs.declared.part.Part.{Part}
+use Rattle.hop_base.specs.declared.value.Pair.{Pair}
+use Rattle.hop_base.specs.declared.value.Val.{Val}
+use Rattle.hop_laws.specs.Stands.{StandsFor}
+
+pub record RunValue : Type 0 where
+  pub sheet : List Pair
+  pub parts : List Part
+
+-- the run of no parts
+abbrev pub empty_run : RunValue
+empty_run = record { sheet = []; parts = [] }
+
+-- the run stands for the pairs of its parts, in the order of the parts
+abbrev pub RunStands : (List ℕ → List Val → List ℕ) → (Part → List Pair) → RunValue → Type 0
+RunStands reduce pairs_of run = StandsFor reduce run.sheet (flat_map pairs_of run.parts)

@@ -1,0 +1,10 @@
+//! Runs: sorted pairs with the list of the parts that they were made of, and what is done with them.
+#![tactic(auto)]
+
+mod mapping;
+mod merging;
+pub mod message;
+pub mod run;
+
+pub use message::{Message, Parcel};
+pub use run::{Run, Runs};
