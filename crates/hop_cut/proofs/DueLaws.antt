@@ -1,15 +1,14 @@
 -- The first line of a text that isn't due in a header.
-use Rattle.std.proofs.Common.{◌≡◌, ◌≢◌, ℕ, zero, suc, ◌+◌, ◌-◌, ◌<◌, ◌≤◌, ◌^◌, ◌⊎◌, inl, inr, Bool, true, false, Option, Some, None, List, [], ◌∷◌, ◌++◌, length, map, get_or, refl, sym, ap, ◌∙◌, subst, arith, append_assoc, length-append, decimal}
+use Rattle.std.proofs.Common.{◌≡◌, ◌≢◌, ℕ, zero, suc, ◌+◌, ◌-◌, ◌<◌, ◌≤◌, ◌⊎◌, inl, inr, Option, List, [], ◌∷◌, ◌++◌, length, get_or, refl, sym, ap, ◌∙◌, subst, arith, append_assoc, length-append, decimal}
 use Rattle.std.specs.Prelude.{codes, All}
 use Rattle.std.specs.List.{AllByRecursion}
 use Rattle.std.proofs.lemmas.List.Elements.{All-from_recursion, recursion_from_All}
 use Rattle.std.proofs.lemmas.List.{get_or_append_left}
 use Rattle.hop_laws.specs.Laws.{IsName}
-use Rattle.hop_event.specs.declared.declared.Declared.{Declared}
 use Rattle.hop_cut.specs.declared.head.SplitLine.{SplitLine}
 use Rattle.hop_cut.specs.declared.head.SnapHead.{SnapHead}
-use Rattle.hop_cut.specs.Snapshot.{Header, IsHeader, header_lines, IsSplit, declared_part, split_words, format_line, job_line, mark_line, reducer_line, progress_line, split_line, split_lines, last_line, text_of, IsDue, IsFirstNotDue, IsHead}
-use Rattle.hop_cut.specs.Lines.{IsJobLine, IsNumberLine, IsReducerLine, IsSplitText}
+use Rattle.hop_cut.specs.Snapshot.{Header, IsHeader, header_lines, IsSplit, format_line, job_line, mark_line, reducer_line, progress_line, split_line, split_lines, last_line, text_of, IsDue, IsFirstNotDue, IsHead}
+use Rattle.hop_cut.specs.Lines.{IsJobLine, IsNumberLine, IsReducerLine}
 use Rattle.hop_cut.specs.Parts.{first_lines, IsFirstPart, IsSplitsPart, SplitsStop}
 use Rattle.hop_cut.proofs.HeadLaws.{text_of-append}
 

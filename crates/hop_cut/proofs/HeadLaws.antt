@@ -1,12 +1,11 @@
 -- A header, as it is read.
-use Rattle.std.proofs.Common.{◌≡◌, ◌≢◌, ℕ, zero, suc, ◌+◌, ◌<◌, ◌≤◌, ◌^◌, ◌⊎◌, inl, inr, Bool, true, false, Option, Some, None, List, [], ◌∷◌, ◌++◌, length, map, get_or, refl, sym, ap, ◌∙◌, subst, arith, append_assoc, length-append, decimal}
+use Rattle.std.proofs.Common.{◌≡◌, ℕ, ◌+◌, ◌<◌, ◌≤◌, Option, List, [], ◌∷◌, ◌++◌, length, map, refl, sym, ap, ◌∙◌, subst, arith, append_assoc, length-append, decimal}
 use Rattle.std.specs.Prelude.{codes, All}
-use Rattle.std.specs.List.{AllByRecursion}
-use Rattle.std.proofs.lemmas.List.Elements.{All-from_recursion, recursion_from_All, All-append}
+use Rattle.std.proofs.lemmas.List.Elements.{All-from_recursion, All-append}
 use Rattle.std.proofs.lemmas.List.{map-append}
 use Rattle.hop_event.specs.declared.declared.Declared.{Declared}
 use Rattle.hop_cut.specs.declared.head.SplitLine.{SplitLine}
-use Rattle.hop_cut.specs.Snapshot.{Header, IsHeader, header_lines, IsSplit, declared_part, split_words, split_line, split_lines, last_line, text_of, IsDue, IsFirstNotDue}
+use Rattle.hop_cut.specs.Snapshot.{IsSplit, declared_part, split_words, split_line, split_lines, last_line, text_of}
 use Rattle.hop_cut.specs.Lines.{IsSplitText}
 use Rattle.hop_cut.specs.Parts.{IsSplitsPart, SplitsStop}
 
@@ -40,10 +39,10 @@ read_more text i declared rest s later h few k = record {
   few = omega arith;
   declared_are = ap (λ ds. ds ++ declared_part s ∷ []) h.declared_are ∙ sym (map-append declared_part h.splits (s ∷ []));
   text_is =
-    let place : split_line (0 + length h.splits) s ≡ split_line i s = ap (λ n. split_line n s) (let e : 0 + length h.splits ≡ i = omega (arith, h.many) in e) in
-    let lines = split_lines-more 0 h.splits s ∙ ap (λ l. split_lines 0 h.splits ++ l ∷ []) place in
-    h.text_is ∙ ap (λ t. text_of (split_lines 0 h.splits) ++ t) (k.text_is ∙ one) ∙ sym (append_assoc (text_of (split_lines 0 h.splits)) (text_of (split_line i s ∷ [])) later)
-    ∙ ap (λ t. t ++ later) (sym (text_of-append (split_lines 0 h.splits) (split_line i s ∷ [])) ∙ ap text_of (sym lines));
+      let place : split_line (0 + length h.splits) s ≡ split_line i s = ap (λ n. split_line n s) (let e : 0 + length h.splits ≡ i = omega (arith, h.many) in e) in
+      let lines = split_lines-more 0 h.splits s ∙ ap (λ l. split_lines 0 h.splits ++ l ∷ []) place in
+      h.text_is ∙ ap (λ t. text_of (split_lines 0 h.splits) ++ t) (k.text_is ∙ one) ∙ sym (append_assoc (text_of (split_lines 0 h.splits)) (text_of (split_line i s ∷ [])) later)
+      ∙ ap (λ t. t ++ later) (sym (text_of-append (split_lines 0 h.splits) (split_line i s ∷ [])) ∙ ap text_of (sym lines));
 }
   where
     one : codes "split " ++ (decimal i ++ (split_words s ++ (10 ∷ later))) ≡ text_of (split_line i s ∷ []) ++ later

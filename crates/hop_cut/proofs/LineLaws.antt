@@ -1,10 +1,10 @@
 -- Each line of a header determines what it says, and what follows it.
-use Rattle.std.proofs.Common.{◌≡◌, ℕ, ◌+◌, ◌<◌, ◌≤◌, ◌^◌, Bool, true, false, Option, Some, None, List, [], ◌∷◌, ◌++◌, refl, sym, ap, ◌∙◌, subst, arith, append_assoc, decimal}
+use Rattle.std.proofs.Common.{◌≡◌, ℕ, ◌<◌, ◌^◌, Bool, true, false, Option, Some, None, List, ◌∷◌, ◌++◌, refl, ◌∙◌, arith, append_assoc, decimal}
 use Rattle.std.specs.Prelude.{codes}
 use Rattle.std.specs.Char.{is_ascii_digit}
 use Rattle.hop_cut.specs.declared.head.SplitLine.{SplitLine}
 use Rattle.hop_cut.specs.Numbers.{StopsAt, IsNumbered}
-use Rattle.hop_cut.specs.Snapshot.{IsSplit, IsSplitLine, kind_words, split_words}
+use Rattle.hop_cut.specs.Snapshot.{kind_words, split_words}
 use Rattle.hop_cut.specs.Lines.{IsNumberLine, IsReducerLine, IsWordsOf, IsSplitText}
 use Rattle.hop_cut.proofs.NumberLaws.{numbered_unique}
 

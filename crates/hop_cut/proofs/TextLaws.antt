@@ -1,5 +1,5 @@
 -- A snapshot's text, as it is written.
-use Rattle.std.proofs.Common.{◌≡◌, ℕ, zero, suc, ◌+◌, ◌<◌, ◌≤◌, Option, Some, None, List, [], ◌∷◌, ◌++◌, length, take, get_or, refl, sym, ap, ◌∙◌, subst, arith, append_assoc, add-one}
+use Rattle.std.proofs.Common.{◌≡◌, ℕ, zero, suc, ◌+◌, ◌<◌, ◌≤◌, Option, None, List, [], ◌∷◌, ◌++◌, length, take, get_or, refl, sym, ap, ◌∙◌, arith, append_assoc, add-one}
 use Rattle.std.specs.Prelude.{codes, IsPermutation}
 use Rattle.std.specs.Option.{option_map}
 use Rattle.std.specs.List.{flat_map}
@@ -9,7 +9,7 @@ use Rattle.hop_base.specs.declared.value.Val.{Val}
 use Rattle.hop_base.specs.declared.value.Pair.{Pair}
 use Rattle.hop_base.specs.declared.part.Part.{Part}
 use Rattle.hop_laws.specs.Groups.{red}
-use Rattle.hop_laws.specs.Blocking.{emitted, blocking, part_records, part_pairs}
+use Rattle.hop_laws.specs.Blocking.{emitted, part_records, part_pairs}
 use Rattle.hop_laws.proofs.Emitted.{emitted-append}
 use Rattle.hop_laws.proofs.Values.{each_permuted}
 use Rattle.hop_laws.proofs.StandsLaws.{red_stands}
@@ -19,7 +19,7 @@ use Rattle.hop_cut.specs.declared.head.SplitLine.{SplitLine}
 use Rattle.hop_cut.specs.declared.cut.Cut.{Cut}
 use Rattle.hop_cut.specs.Snapshot.{header_lines, split_line, split_lines, last_line, text_of}
 use Rattle.hop_cut.specs.Parts.{first_lines}
-use Rattle.hop_cut.specs.Covered.{declared_lines, declared_at, covered_parts, covered_records, header_of, text_with, snapshot_text, IsOfCoverage}
+use Rattle.hop_cut.specs.Covered.{declared_lines, declared_at, covered_parts, header_of, text_with, snapshot_text, IsOfCoverage}
 use Rattle.hop_cut.proofs.HeadLaws.{text_of-append, split_lines-more}
 
 abbrev line_of : Option Declared → ℕ → Option SplitLine

@@ -3,7 +3,7 @@ use Rattle.std.specs.Prelude.{◌≡◌, ℕ, ◌+◌, ◌<◌, ◌≤◌, Optio
 use Rattle.hop_laws.specs.Laws.{IsName}
 use Rattle.hop_event.specs.declared.declared.Declared.{Declared}
 use Rattle.hop_cut.specs.declared.head.SplitLine.{SplitLine}
-use Rattle.hop_cut.specs.Snapshot.{Header, IsSplit, declared_part, format_line, job_line, mark_line, reducer_line, progress_line, split_lines, last_line, text_of}
+use Rattle.hop_cut.specs.Snapshot.{IsSplit, declared_part, format_line, job_line, mark_line, reducer_line, progress_line, split_lines, last_line, text_of}
 use Rattle.hop_cut.specs.Lines.{IsSplitText}
 
 -- the lines before those of the splits

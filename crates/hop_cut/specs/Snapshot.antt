@@ -1,5 +1,5 @@
 -- The header of a snapshot, by its lines.
-use Rattle.std.specs.Prelude.{◌≡◌, ◌≢◌, ℕ, ◌+◌, ◌<◌, ◌≤◌, Bool, true, false, Option, None, Some, List, [], ◌∷◌, ◌++◌, length, map, take, All, slice_index_or, decimal, codes}
+use Rattle.std.specs.Prelude.{◌≡◌, ◌≢◌, ℕ, ◌+◌, ◌<◌, ◌≤◌, Bool, true, false, Option, None, Some, List, [], ◌∷◌, ◌++◌, length, map, All, slice_index_or, decimal, codes}
 use Rattle.std.specs.Option.{option_map}
 use Rattle.hop_laws.specs.Laws.{IsName}
 use Rattle.hop_event.specs.declared.declared.Declared.{Declared}

@@ -5,6 +5,8 @@ pub mod cut;
 pub mod head;
 mod lines;
 mod numbers;
+#[cfg(test)]
+mod tests;
 mod texts;
 
 pub use cut::{Cut, Cuts, cut_text, whole_sheet};

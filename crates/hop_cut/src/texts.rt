@@ -58,12 +58,7 @@ pub(crate) fn push_splits(
 }
 
 // Writes the line of split i.
-fn push_split(
-    text: &mut Vec<u8>,
-    i: u32,
-    one: Option<Declared>,
-    len: u32,
-) -> Result<(), NoMemory>
+fn push_split(text: &mut Vec<u8>, i: u32, one: Option<Declared>, len: u32) -> Result<(), NoMemory>
     ensures { OnOk result (text.new.items ≡ text.old.items ++ text_of (split_line i (option_map (λ d. record { declared = d; len = len }) one) ∷ [])) }
 {
     push_number(text, b"split ", i)?;

@@ -1,5 +1,4 @@
 use Rattle.std.proofs.Common.{◌≡◌, Err, refl, ap}
-use Rattle.hop_cut.specs.declared.head.SnapFault.{SnapFault}
 use Rattle.hop_cut.specs.declared.head.SnapFault.TheVariants.{NotASnapshot}
 use Rattle.hop_cut.proofs.DueLaws.{stop_splits, read_whole}
 use Rattle.hop_cut.proofs.head.cut_read.Goals as goal

@@ -1,4 +1,4 @@
-use Rattle.hop_cut.proofs.HeadLaws.{read_none, read_more, read_end, read_stop}
+use Rattle.hop_cut.proofs.HeadLaws.{read_more, read_end}
 use Rattle.hop_cut.proofs.head.split_lines.Goals as goal
 
 pub returns-in-Some-clause-found : goal.returns-in-Some-clause-found

@@ -1,4 +1,4 @@
-use Rattle.std.proofs.Common.{ℕ, ◌-◌}
+use Rattle.std.proofs.Common.{◌-◌}
 use Rattle.hop_cut.proofs.HeadLaws.{IsReadUpto}
 use Rattle.hop_cut.proofs.head.split_lines.Given as goal
 

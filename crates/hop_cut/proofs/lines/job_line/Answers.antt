@@ -1,4 +1,4 @@
-use Rattle.std.proofs.Common.{◌≡◌, ◌<◌, length, ap, sym, ◌∙◌, subst, arith, false, ◌==◌}
+use Rattle.std.proofs.Common.{◌<◌, length, sym, ◌∙◌, arith}
 use Rattle.std.proofs.lemmas.Bool.Decides.{nat_tests}
 use Rattle.hop_cut.proofs.NameLaws.{job_there, job_read}
 use Rattle.hop_cut.proofs.lines.job_line.Goals as goal

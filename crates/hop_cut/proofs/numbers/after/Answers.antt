@@ -1,4 +1,4 @@
-use Rattle.std.proofs.Common.{true, false, sym, ◌∙◌}
+use Rattle.std.proofs.Common.{sym, ◌∙◌}
 use Rattle.std.proofs.lemmas.Bool.{true≢false}
 use Rattle.hop_cut.proofs.NumberLaws.{begins_with, bytes_equal}
 use Rattle.hop_cut.proofs.numbers.after.Goals as goal

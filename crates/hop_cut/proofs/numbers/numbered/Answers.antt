@@ -1,4 +1,4 @@
-use Rattle.std.proofs.Common.{◌∙◌, sym}
+use Rattle.std.proofs.Common.{◌∙◌}
 use Rattle.hop_cut.proofs.NumberLaws.{number_there}
 use Rattle.hop_cut.proofs.numbers.numbered.Goals as goal
 
