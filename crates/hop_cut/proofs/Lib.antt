@@ -1,0 +1,6 @@
+pub mod DueLaws
+pub mod HeadLaws
+pub mod LineLaws
+pub mod NameLaws
+pub mod NumberLaws
+pub mod TextLaws

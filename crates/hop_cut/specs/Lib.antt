@@ -1,0 +1,5 @@
+pub mod Covered
+pub mod Lines
+pub mod Numbers
+pub mod Parts
+pub mod Snapshot

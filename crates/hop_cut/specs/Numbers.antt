@@ -1,0 +1,18 @@
+-- Numbers and names at the beginning of a text.
+use Rattle.std.specs.Prelude.{◌≡◌, ℕ, ◌<◌, ◌^◌, ◌==◌, ◌||◌, not, Bool, false, List, [], ◌∷◌, ◌++◌, decimal}
+use Rattle.std.specs.Char.{is_ascii_digit}
+
+-- the text doesn't begin with a byte that passes the test
+abbrev pub StopsAt : (ℕ → Bool) → List ℕ → Type 0
+StopsAt test [] = Unit {0}
+StopsAt test (c ∷ cs) = test c ≡ false
+
+-- a byte of a name
+abbrev pub is_name_byte : ℕ → Bool
+is_name_byte b = not (b == 32 || b == 10)
+
+-- the text begins with the piece and the number, and this, which doesn't go on with a digit, follows
+pub record IsNumbered (piece text : List ℕ) (n : ℕ) (rest : List ℕ) : Type 0 where
+  pub small : n < 2 ^ 32
+  pub ends : StopsAt is_ascii_digit rest
+  pub text_is : text ≡ piece ++ (decimal n ++ rest)

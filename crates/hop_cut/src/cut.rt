@@ -1,0 +1,119 @@
+//! Cuts, and the texts of their snapshots.
+ghost use Rattle.std.specs.Prelude.{◌≡◌, ◌<◌, ◌≤◌, ◌++◌, ℕ, List, IfOk, OnOk, IsPermutation, decimal, length};
+ghost use Rattle.std.specs.List.{flat_map};
+ghost use Rattle.hop_base.specs.declared.value.Pair.{Pair};
+ghost use Rattle.hop_base.specs.Order.{IsSheet};
+ghost use Rattle.hop_laws.specs.Groups.{red};
+ghost use Rattle.hop_cut.specs.Snapshot.{header_lines, text_of};
+ghost use Rattle.hop_cut.specs.Covered.{StandTogether, IsOfCoverage, snapshot_text, text_with, header_of};
+
+use crate::texts::{push_first, push_splits};
+use hop_base::{Lens, Listed, NoMemory, Pair, Sheet, Text};
+use hop_cover::Declares;
+use hop_laws::{Job, reduce_sheet};
+use hop_run::{Run, Runs};
+use std::alloc::Global;
+
+/// What a reducer's history covers when it first reaches a mark, with the runs of it. (A snapshot of
+/// NSDI 2010, "MapReduce Online", before it is reduced.)
+#[derive(Debug, Drop)]
+pub struct Cut {
+    /// The mark, 1 to 10,000.
+    pub mark: u16,
+    /// The progress of what is covered, at most 10,000.
+    pub progress: u16,
+    /// What each split declares.
+    pub declared: Declares,
+    /// Runs that stand together for the ranges that are declared.
+    pub runs: Runs,
+}
+
+/// A list of cuts.
+pub type Cuts = Listed<Cut>;
+
+/// The snapshot's text: its header, and the reduction of the cut's runs, for partition `p` of `r`.
+pub fn cut_text<J: Job>(
+    alloc: Global,
+    job: &J,
+    p: u8,
+    r: u8,
+    lens: &Lens,
+    cut: &Cut,
+) -> Result<Text, NoMemory>
+    requires each { length cut.now.declared ≡ length lens.now }
+    ensures text { IfOk result (λ text. text ≡ text_with (header_of (J.meaning job.now).name cut.now.mark p r cut.now.progress lens.now cut.now.declared) (red (J.meaning job.now).reduced (flat_map (λ run. run.sheet) cut.now.runs))) }
+
+    // It is the snapshot of the coverage that the cut declares.
+    ensures snapshot { (records : List (List ℕ)) (n : ℕ)
+        → IsOfCoverage (J.meaning job.now) records n p r lens.now cut.now
+        → IfOk result (λ text. text ≡ snapshot_text (J.meaning job.now) records n p r lens.now cut.now.mark cut.now.declared) }
+{
+    written(alloc, job, p, r, lens, cut)
+}
+
+// The header and the reduction of the runs.
+fn written<J: Job>(
+    alloc: Global,
+    job: &J,
+    p: u8,
+    r: u8,
+    lens: &Lens,
+    cut: &Cut,
+) -> Result<Text, NoMemory>
+    requires { length cut.now.declared ≡ length lens.now }
+    ensures { IfOk result (λ text. text ≡ text_with (header_of (J.meaning job.now).name cut.now.mark p r cut.now.progress lens.now cut.now.declared) (red (J.meaning job.now).reduced (flat_map (λ run. run.sheet) cut.now.runs))) }
+{
+    let name = job.name(alloc)?;
+    let mut text = header(alloc, name.as_slice(), p, r, lens, cut)?;
+    let body = body(alloc, job, cut.runs.as_slice())?;
+    text.extend_from_slice(&body)?;
+    Ok(Listed::from_vec(text))
+}
+
+// The snapshot's header.
+fn header(
+    alloc: Global,
+    name: &[u8],
+    p: u8,
+    r: u8,
+    lens: &Lens,
+    cut: &Cut,
+) -> Result<Vec<u8>, NoMemory>
+    requires { length cut.now.declared ≡ length lens.now }
+    ensures { IfOk result (λ text. text.items ≡ text_of (header_lines (header_of name.now cut.now.mark p r cut.now.progress lens.now cut.now.declared))) }
+{
+    let mut text = Vec::new(alloc);
+    push_first(&mut text, name, cut.mark, p, r, cut.progress)?;
+    push_splits(&mut text, lens.as_slice(), cut.declared.as_slice())?;
+    Ok(text)
+}
+
+// The reduction of all these runs together.
+fn body<J: Job>(alloc: Global, job: &J, runs: &[Run]) -> Result<Vec<u8>, NoMemory>
+    ensures { IfOk result (λ text. text.items ≡ red (J.meaning job.now).reduced (flat_map (λ run. run.sheet) runs.now)) }
+{
+    let sheet = whole_sheet(alloc, runs)?;
+    let text = reduce_sheet(alloc, job, &sheet)?;
+    Ok(text)
+}
+
+/// The pairs of all these runs, in order.
+pub fn whole_sheet(alloc: Global, runs: &[Run]) -> Result<Sheet, NoMemory>
+    ensures { IfOk result (λ sheet. IsPermutation (flat_map (λ run. run.sheet) runs.now) sheet) }
+{
+    let mut pairs = Vec::new(alloc);
+    for run in runs {
+        push_pairs(&mut pairs, run.sheet().as_slice())?;
+    }
+    Ok(Sheet::from_pairs(pairs))
+}
+
+// Puts copies of the pairs behind those that are there.
+fn push_pairs(to: &mut Vec<Pair>, pairs: &[Pair]) -> Result<(), NoMemory>
+    ensures { OnOk result (to.new.items ≡ to.old.items ++ pairs.now) }
+{
+    for pair in pairs {
+        to.push(pair.copy()?)?;
+    }
+    Ok(())
+}

@@ -1,0 +1,13 @@
+//! Snapshots: what a reducer's history covers when it first reaches a mark, and its text.
+#![tactic(auto)]
+
+pub mod cut;
+pub mod head;
+mod lines;
+mod numbers;
+#[cfg(test)]
+mod tests;
+mod texts;
+
+pub use cut::{Cut, Cuts, cut_text, whole_sheet};
+pub use head::{SnapFault, SnapHead, SplitLine, cut_read};
