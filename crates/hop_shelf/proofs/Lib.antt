@@ -3,6 +3,8 @@ pub mod CutLaws
 pub mod JournalLaws
 pub mod OwnerLaws
 pub mod Places
+pub mod PlainLaws
+pub mod PlainRun
 pub mod RecordLaws
 pub mod ShelfLaws
 pub mod SoundLaws

@@ -6,5 +6,6 @@ pub mod Journal
 pub mod Kept
 pub mod Names
 pub mod Parts
+pub mod Plain
 pub mod Sound
 pub mod Work
