@@ -1,0 +1,11 @@
+pub mod Chains
+pub mod CutLaws
+pub mod JournalLaws
+pub mod OwnerLaws
+pub mod Places
+pub mod PlainLaws
+pub mod PlainRun
+pub mod RecordLaws
+pub mod ShelfLaws
+pub mod SoundLaws
+pub mod Together

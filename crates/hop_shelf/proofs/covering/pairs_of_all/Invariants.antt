@@ -1,0 +1,10 @@
+use Rattle.std.proofs.Common.{◌≡◌, take, map}
+use Rattle.std.specs.Prelude.{filter}
+use Rattle.std.specs.List.{flat_map}
+use Rattle.hop_run.specs.Runs.{RunValue}
+use Rattle.hop_shelf.specs.declared.kept.Kept.{Kept}
+use Rattle.hop_shelf.specs.Covered.{covers_in}
+use Rattle.hop_shelf.proofs.covering.pairs_of_all.Given as goal
+
+abbrev pub invariant-loop-one : goal.invariant-loop-one
+invariant-loop-one l = l.pairs.items ≡ flat_map (λ (r : RunValue). r.sheet) (map (λ (k : Kept). k.run) (filter (λ (k : Kept). covers_in l.declarations k.owner) (take l.one-index l.kept)))

@@ -1,0 +1,58 @@
+-- The runs that a shelf keeps.
+use Rattle.std.specs.Prelude.{◌≡◌, ◌≢◌, ℕ, ◌<◌, Bool, false, not, if◌then◌else◌, List, [], length, AllPairs, slice_index_or, slice_set}
+use Rattle.std.specs.List.{flat_map, remove}
+use Rattle.hop_base.specs.declared.part.Part.{Part}
+use Rattle.hop_run.specs.Runs.{RunValue}
+use Rattle.hop_event.specs.History.{same_attempt}
+use Rattle.hop_shelf.specs.declared.kept.Kept.{Kept}
+use Rattle.hop_shelf.specs.declared.kept.Owner.{Owner}
+use Rattle.hop_shelf.specs.declared.kept.Owner.TheVariants.{Committed, Attempt}
+
+-- whether the run is this attempt's
+abbrev pub owned_by : ℕ → ℕ → Owner → Bool
+owned_by i a Committed = false
+owned_by i a (Attempt j b) = same_attempt j b i a
+
+abbrev pub is_other : ℕ → ℕ → Kept → Bool
+is_other i a k = not (owned_by i a k.owner)
+
+-- the run as it is once the attempt has won
+abbrev pub committed_by : ℕ → ℕ → Kept → Kept
+committed_by i a k = if owned_by i a k.owner then record k { owner = Committed } else k
+
+-- the parts of all runs
+abbrev pub all_parts : List Kept → List Part
+all_parts kept = flat_map (λ k. k.run.parts) kept
+
+abbrev pub no_kept : Kept
+no_kept = record { number = 0; owner = Committed; run = record { sheet = []; parts = [] } }
+
+abbrev pub kept_at : List Kept → ℕ → Kept
+kept_at kept i = slice_index_or kept i no_kept
+
+abbrev pub at_number : List Kept → ℕ → ℕ
+at_number kept i = (kept_at kept i).number
+
+-- the run at this place has this number and these parts
+pub record HasRun (kept : List Kept) (i number : ℕ) (parts : List Part) : Type 0 where
+  pub within : i < length kept
+  pub number_is : (kept_at kept i).number ≡ number
+  pub parts_are : (kept_at kept i).run.parts ≡ parts
+
+-- at these places stand these two runs, and they have one owner
+pub record AreMergeable (kept : List Kept) (m n : ℕ) (a : ℕ) (a_parts : List Part) (b : ℕ) (b_parts : List Part) : Type 0 where
+  pub first : HasRun kept m a a_parts
+  pub second : HasRun kept n b b_parts
+  pub owner : (kept_at kept m).owner ≡ (kept_at kept n).owner
+
+-- numbers are apart
+abbrev pub AreApart : List Kept → Type 0
+AreApart kept = AllPairs (λ k l. k.number ≢ l.number) kept
+
+-- no two runs have one owner
+abbrev pub OwnersApart : List Kept → Type 0
+OwnersApart kept = (m n : ℕ) → m < n → n < length kept → (kept_at kept m).owner ≡ (kept_at kept n).owner → ⊥
+
+-- a merge in the place of the first run, without the second
+abbrev pub joined_at : List Kept → ℕ → ℕ → RunValue → List Kept
+joined_at kept m n run = remove (slice_set kept m (record (kept_at kept m) { run = run })) n

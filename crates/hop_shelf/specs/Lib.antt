@@ -1,0 +1,11 @@
+pub mod Covered
+pub mod Cuts
+pub mod Finish
+pub mod Holds
+pub mod Journal
+pub mod Kept
+pub mod Names
+pub mod Parts
+pub mod Plain
+pub mod Sound
+pub mod Work
