@@ -11,9 +11,6 @@ use std::env;
 use std::io::ErrorKind;
 use std::process::ExitCode;
 
-/// The status where there is no memory to begin with.
-const NO_MEMORY: u8 = 9;
-
 // The words after the program's name. Where one of them is no text there are none, which is a faulty
 // command line.
 fn words_of(rt: &HostRuntime) -> Result<Words, NoMemory> {
@@ -57,19 +54,24 @@ fn report(rt: &HostRuntime, answer: &Outcome) {
     }
 }
 
+// Says how the call ended, and gives its status.
+fn ended(rt: &HostRuntime, answer: &Outcome) -> ExitCode {
+    report(rt, answer);
+    ExitCode::from(status(answer))
+}
+
 fn main(rt: HostRuntime) -> ExitCode {
     let alloc = rt.alloc();
     let Ok(words) = words_of(&rt) else {
-        return ExitCode::from(NO_MEMORY);
+        return ended(&rt, &Outcome::NoMemory);
     };
     let Ok(folder) = DiskFolder::new(rt, ".") else {
-        return ExitCode::from(NO_MEMORY);
+        return ended(&rt, &Outcome::NoMemory);
     };
     let Ok(spills) = spills_of(rt) else {
-        return ExitCode::from(NO_MEMORY);
+        return ended(&rt, &Outcome::NoMemory);
     };
     let mut out = StdSink::new(rt);
     let handed = hop(&rt, alloc, &words, folder, spills, &mut out, &OpenGate);
-    report(&rt, &handed.answer);
-    ExitCode::from(status(&handed.answer))
+    ended(&rt, &handed.answer)
 }

@@ -87,10 +87,10 @@ whole_records records settings ranges =
     let splits : ℕ = splits_of book in
     let count : length lens ≡ splits = length-map-range_with_len (len_of book) 0 splits in
     let each : (i : ℕ) → 0 ≤ i → i < 0 + splits → part_records records n (whole_split lens i) ≡ take n (drop (i * n) records) = λ i l m.
-        let len : slice_index lens i ≡ len_of book i = get_or-map-range_with_len (len_of book) 0 splits i i 0 (omega arith) (omega arith) in
-        let whole : slice_index lens i - 0 ≡ length (take n (drop (i * n) records)) = omega (arith, len) in
-        let place : i * n + 0 ≡ i * n = omega arith in
-        ap (λ l. take l (drop (i * n + 0) records)) whole ∙ ap (λ p. take (length (take n (drop (i * n) records))) (drop p records)) place ∙ take_own n (drop (i * n) records)
+    let len : slice_index lens i ≡ len_of book i = get_or-map-range_with_len (len_of book) 0 splits i i 0 (omega arith) (omega arith) in
+    let whole : slice_index lens i - 0 ≡ length (take n (drop (i * n) records)) = omega (arith, len) in
+    let place : i * n + 0 ≡ i * n = omega arith in
+    ap (λ l. take l (drop (i * n + 0) records)) whole ∙ ap (λ p. take (length (take n (drop (i * n) records))) (drop p records)) place ∙ take_own n (drop (i * n) records)
     in
     let none : 0 * n ≡ 0 = omega arith in
     flat_single (part_records records n) (whole_split lens) (range_with_len 0 (length lens))

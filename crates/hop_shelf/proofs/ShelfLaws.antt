@@ -61,11 +61,11 @@ module _ (rules : Rules) (p : ℕ) (marks : List ℕ) (tentative : Bool) (tells 
       subst (IsSound rules p marks tentative tells reduce pairs_of new) (sym e) (record {
         legal = subst (GrowsLegally rules p) (sym a.events) (record { restarts = none_due; open_before = unfinished; rule = (range, worker, goes) }, s.legal);
         lens = a.lens ∙ s.lens;
-    ranges = subst AreLens (sym a.lens) s.ranges;
-    marks_are = a.marks ∙ s.marks_are;
-    tentative_is = a.tentative ∙ s.tentative_is;
-    due = inr a.due;
-    by_records = s.by_records;
+        ranges = subst AreLens (sym a.lens) s.ranges;
+        marks_are = a.marks ∙ s.marks_are;
+        tentative_is = a.tentative ∙ s.tentative_is;
+        due = inr a.due;
+        by_records = s.by_records;
         restarts = a.restarts ∙ s.restarts;
         limit = s.limit;
         stand = λ t. All-push (λ (k : Kept). RunHolds reduce pairs_of k.run) kept k (s.stand t) (stands t);

@@ -87,7 +87,12 @@ fn room(shelf: &mut Shelf<Small>) -> Result<(), NoMemory>
 }
 
 // The record arrives.
-fn take(shelf: &mut Shelf<Small>, book: &Book, from: u32, alloc: Global) -> Result<Arrived, NoMemory>
+fn take(
+    shelf: &mut Shelf<Small>,
+    book: &Book,
+    from: u32,
+    alloc: Global,
+) -> Result<Arrived, NoMemory>
     requires plain { IsPlain shelf.old.journal }
     requires p { shelf.old.p ≡ 0 }
     requires book { book.now ≡ book_of two_records one_split }

@@ -13,7 +13,7 @@ invariant_of-result g c =
     let marks = c.in_ok-marks.ensures.items ∙ c.as_slice.ensures.value ∙ c.requires.marks in
     let tentative = c.in_ok-coverage.ensures.wanted ∙ c.requires.tentative in
     let begins = subst (λ t. IsBeginning c.in_ok-coverage.coverage.lens t c.in_ok-restarts.restarts.items g.N.RunName.settings.marks c.in_ok-journal.journal) tentative
-        (subst (λ (m : List ℕ). IsBeginning c.in_ok-coverage.coverage.lens c.in_ok-coverage.coverage.tentative c.in_ok-restarts.restarts.items m c.in_ok-journal.journal) marks c.in_ok-journal.ensures.begins) in
+    (subst (λ (m : List ℕ). IsBeginning c.in_ok-coverage.coverage.lens c.in_ok-coverage.coverage.tentative c.in_ok-restarts.restarts.items m c.in_ok-journal.journal) marks c.in_ok-journal.ensures.begins) in
     empty_sound (rules_of g.N.RunName.records g.N.RunName.script g.N.RunName.settings) c.args.p g.N.RunName.settings.marks g.N.RunName.settings.tentative g.N.RunName.tells g.N.RunName.job.reduced (pairs_of g.N.RunName.job g.N.RunName.records g.N.RunName.settings c.args.p)
     c.in_ok-coverage.coverage.lens c.in_ok-restarts.restarts.items c.in_ok-journal.journal c.new-3.result.items begins
     (c.in_ok-coverage.ensures.lens ∙ c.requires.lens)

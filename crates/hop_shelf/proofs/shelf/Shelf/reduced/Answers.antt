@@ -27,4 +27,4 @@ returns g c = λ t.
     (c.in_ok-pairs.ensures ∙ ap (λ (ds : List (Option Declared)). flat_map (λ (r : RunValue). r.sheet) (map (λ (k : Kept). k.run) (filter (λ (k : Kept). covers_in ds k.owner) c.deref.result.now))) c.as_slice.ensures ∙ ap (λ (kept : List Kept). flat_map (λ (r : RunValue). r.sheet) (map (λ (k : Kept). k.run) (filter (λ (k : Kept). covers_in c.in_ok-declared.declared k.owner) kept))) c.deref.ensures.value)
     c.from_pairs.ensures.same t
     ∙ ap (red g.N.RunName.job.reduced) (ap (λ (ls : List ℕ). flat_map (pairs_of g.N.RunName.job g.N.RunName.records g.N.RunName.settings c.self.inside.p) (whole_parts ls)) c.self.invariant.lens
-      ∙ whole_emitted g.N.RunName.job g.N.RunName.records g.N.RunName.settings c.self.inside.p (subst AreLens c.self.invariant.lens c.self.invariant.ranges)))
+    ∙ whole_emitted g.N.RunName.job g.N.RunName.records g.N.RunName.settings c.self.inside.p (subst AreLens c.self.invariant.lens c.self.invariant.ranges)))
