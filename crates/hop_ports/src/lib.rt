@@ -5,7 +5,7 @@
 pub mod clean;
 mod count;
 pub mod disk;
-pub mod files;
+mod files;
 pub mod folder;
 pub mod gate;
 pub mod memory;

@@ -14,6 +14,7 @@ pub struct Parcel {
 pub enum Message {
     /// A part with its run.
     Parcel(Parcel),
-    /// The attempt of the split has mapped all its records.
+    /// The attempt of the split has ended: it was committed or revoked, and sends no further part.
+    /// Which of the two, the reducer asks.
     Notice { split: u32, attempt: u8 },
 }
