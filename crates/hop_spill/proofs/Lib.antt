@@ -1,0 +1,5 @@
+pub mod FieldLaws
+pub mod LoopLaws
+pub mod PairLaws
+pub mod SheetLaws
+pub mod SpillLaws

@@ -1,0 +1,5 @@
+use Rattle.hop_spill.proofs.SpillLaws.{no_prefix}
+use Rattle.hop_spill.proofs.encoding.encode.Goals as goal
+
+pub returns-clause-apart : goal.returns-clause-apart
+returns-clause-apart c = λ other rest h e. no_prefix c.args.spill.now other rest c.requires h e
