@@ -1,0 +1,5 @@
+pub mod NameLaws
+pub mod ReadLaws
+pub mod RowLaws
+pub mod SoundLaws
+pub mod StretchLaws
