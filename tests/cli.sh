@@ -138,28 +138,47 @@ run block wc in
 ended 2 'hop: cannot read the input' '' 'in '
 end
 
+# So many bytes `x`.
+exes() {
+    head -c "$1" /dev/zero | tr '\0' 'x'
+}
+
+# 262,144 lines of 63 `x`, which are 16,777,216 bytes.
+greatest() {
+    exes 16515072 | fold -w 63
+    echo
+}
+
 begin 'an input of the greatest length'
-head -c 16777216 /dev/zero | tr '\0' 'x' | fold -w 63 | head -c 16777215 >in
-printf '\n' >>in
-run block wc in
-same status 0 "$status"
+greatest >in
 same length 16777216 "$(wc -c <in | tr -d ' ')"
+run block wc in
+ended 0 '' 'done records=262144 parts=1' 'in part-0 '
+holds part-0 "$(exes 63)>262144 "
 end
 
 begin 'one byte too many'
-head -c 16777217 /dev/zero >in
+{ greatest; exes 1; } >in
+same length 16777217 "$(wc -c <in | tr -d ' ')"
 run block wc in
 ended 3 'hop: the input is too long' '' 'in '
 end
 
 begin 'a record of the greatest length'
-head -c 65535 /dev/zero | tr '\0' 'x' >in
+exes 65535 >in
 run block wc in
 ended 0 '' 'done records=1 parts=1' 'in part-0 '
+holds part-0 "$(exes 65535)>1 "
 end
 
 begin 'a record that is too long'
-{ echo short; head -c 65536 /dev/zero | tr '\0' 'x'; } >in
+exes 65536 >in
+run block wc in
+ended 3 'hop: record 0 is too long' '' 'in '
+end
+
+begin 'the second record is too long'
+{ echo short; exes 65536; } >in
 run block wc in
 ended 3 'hop: record 1 is too long' '' 'in '
 end

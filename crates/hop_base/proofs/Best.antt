@@ -1,10 +1,10 @@
 -- The first K of a list in order don't change when items are added that K items are not above.
-use Rattle.std.proofs.Common.{◌≡◌, ℕ, zero, suc, ◌+◌, ◌<◌, ◌≤◌, Bool, true, false, cond, if◌then◌else◌, List, [], ◌∷◌, ◌++◌, length, take, drop, refl, sym, ap, ◌∙◌, subst, arith, inl, inr}
+use Rattle.std.proofs.Common.{◌≡◌, ℕ, zero, suc, ◌+◌, ◌≤◌, Bool, true, false, cond, if◌then◌else◌, List, [], ◌∷◌, ◌++◌, length, take, drop, refl, sym, ap, ◌∙◌, subst, arith, inl, inr}
 use Rattle.std.specs.declared.cmp.Ordering.{Ordering}
 use Rattle.std.specs.declared.cmp.Ordering.TheVariants.{Less, Equal, Greater}
-use Rattle.std.specs.Ordering.{is_gt, is_lt, is_eq, ordering_reverse}
+use Rattle.std.specs.Ordering.{is_gt, is_eq, ordering_reverse}
 use Rattle.std.specs.Cmp.{IsTotalOrder, upto, tied_itself}
-use Rattle.std.proofs.lemmas.Bool.{true≢false, false≢true, cases_Bool, cases_lt}
+use Rattle.std.proofs.lemmas.Bool.{true≢false, false≢true, cases_lt}
 use Rattle.std.proofs.lemmas.List.{take-append-drop, length-take-le, take_all}
 use Rattle.std.proofs.lemmas.Map.Lookups.{CmpEqualImpliesEq}
 use Rattle.hop_base.specs.Sorted.{insert_in_order, ord}

@@ -1,5 +1,5 @@
 -- Marks stay ascending when a greater one is put behind them.
-use Rattle.std.proofs.Common.{ℕ, ◌+◌, ◌<◌, ◌≤◌, List, [], ◌∷◌, ◌++◌, length, arith, length-append}
+use Rattle.std.proofs.Common.{ℕ, ◌<◌, ◌≤◌, List, [], ◌∷◌, ◌++◌, length, arith, length-append}
 use Rattle.hop_base.specs.Ranges.{AreMarks, AscendFrom, last_mark}
 
 ascend_more : (low mark : ℕ) (marks : List ℕ) → AscendFrom low marks → low < mark → last_mark marks < mark → mark ≤ 10000 → AscendFrom low (marks ++ mark ∷ [])

@@ -13,6 +13,6 @@ pub record Meaning : Type 0 where
   -- the text that reduce gives for a key and its values, in order
   pub reduced : List ℕ → List Val → List ℕ
 
--- a job that emits nothing
+-- a job that emits nothing; it has no name, and so it isn't lawful
 abbrev pub no_job : Meaning
 no_job = record { name = []; emits = λ line. []; combined = λ key vals. vals; reduced = λ key vals. [] }

@@ -18,7 +18,7 @@ val_cmp a b = ordering_then (nat_cmp a.n b.n) (key_cmp a.s b.s)
 abbrev pub pair_cmp : Pair → Pair → Ordering
 pair_cmp a b = ordering_then (key_cmp a.key b.key) (val_cmp a.val b.val)
 
--- a key, as long as one may be
+-- a key within the limit
 abbrev pub IsKey : List ℕ → Type 0
 IsKey k = length k ≤ 131071
 

@@ -18,7 +18,7 @@ pub record DelayLine : Type 0 where
   pub worker : ℕ
   pub turns : ℕ
 
--- the lines of a fault script by their kinds, each ascending by what it names
+-- the lines of a fault script by their kinds, each kind in some order
 pub record ScriptLines : Type 0 where
   pub fails : List FailLine
   pub restarts : List RestartLine
@@ -29,7 +29,7 @@ abbrev pub fails_at : ScriptLines → ℕ → ℕ → Option ℕ
 fails_at script split attempt =
     option_map (λ (line : FailLine). line.at) (find (λ (line : FailLine). (line.split == split) && (line.attempt == attempt)) script.fails)
 
--- after which of its arrivals a reducer restarts, ascending
+-- after which of its arrivals a reducer restarts, in the order of the lines
 abbrev pub restarts_of : ScriptLines → ℕ → List ℕ
 restarts_of script partition =
     map (λ (line : RestartLine). line.arrivals) (filter (λ (line : RestartLine). line.partition == partition) script.restarts)

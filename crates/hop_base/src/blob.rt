@@ -52,7 +52,7 @@ impl Blob {
         }
     }
 
-    /// A blob of these bytes, where they are known to be few enough.
+    /// A blob of these bytes, which are known to be at most 131,071.
     pub fn from_short(alloc: Global, bytes: &[u8]) -> Result<Blob, NoMemory>
         requires { length bytes.now ≤ 131071 }
         ensures { IfOk result (λ blob. blob ≡ bytes.now) }

@@ -33,7 +33,8 @@ impl Lens {
         }
     }
 
-    /// The length is last. After `NoMemory` the list is as before.
+    /// The length is last: 1 to 16,777,216, in a list of fewer than 1,024. After `NoMemory` the list is
+    /// as before.
     pub fn push(&mut self, len: u32) -> Result<(), NoMemory>
         requires room { length self.old < 1024 }
         requires some { 1 ≤ len }

@@ -34,7 +34,8 @@ impl Marks {
         }
     }
 
-    /// The mark is last. After `NoMemory` the list is as before.
+    /// The mark is last: above the one before it, 1 to 10,000, in a list of fewer than 16. After
+    /// `NoMemory` the list is as before.
     pub fn push(&mut self, mark: u16) -> Result<(), NoMemory>
         requires room { length self.old < 16 }
         requires above { last_mark self.old < mark }

@@ -32,6 +32,8 @@ pub trait RunName {
     ghost spills: { List (Option Files) };
 }
 
+/// A run of no records, whose job emits nothing. That job has no name, so it isn't lawful: a call that
+/// asks for a lawful job is made under a name of its own.
 impl RunName for Brand {
     ghost use Rattle.std.specs.Prelude.{[], None, true};
     ghost use Rattle.hop_base.specs.Meaning.{no_job};

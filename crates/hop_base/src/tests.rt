@@ -59,5 +59,6 @@ fn lists_take_their_items(rt: HostRuntime) -> Result<(), Fail> {
     let mut texts = Texts::new(alloc);
     texts.push(Text::from_slice(alloc, b"a")?.copy()?)?;
     assert_eq!(rt; texts.as_slice().len(), 1);
+    assert_eq!(rt; texts.as_slice()[0].as_slice(), b"a".as_slice());
     Ok(())
 }

@@ -46,7 +46,7 @@ impl Words {
         self.items.len() as u64
     }
 
-    /// Word `k`, counted from 0.
+    /// Word `k`, counted from 0 and below `len`.
     pub fn word(&self, k: u64) -> &str
         requires { k < length self.now }
         ensures { slice_get self.now k ≡ Some result.now }

@@ -11,9 +11,10 @@ use hop_laws::Job;
 use hop_records::Book;
 use std::alloc::Global;
 
-/// The blocking job's text of each of `r` partitions over the records of a book: what the
+/// The blocking job's text of each of `r` partitions, 1 to 8, over the records of a book: what the
 /// programming model of MapReduce (OSDI 2004) gives, with the keys of a partition in ascending order.
-/// It keeps about as many pairs as there are distinct keys. `NoMemory` comes where they don't fit.
+/// It keeps about as many pairs as combine leaves of them; up to 32,768 of a partition are kept before
+/// any are combined.
 pub fn block<J: Job>(alloc: Global, job: &J, book: &Book, r: u8) -> Result<Texts, NoMemory>
     requires some { 1 ≤ r }
     requires few { r ≤ 8 }
@@ -27,8 +28,8 @@ pub fn block<J: Job>(alloc: Global, job: &J, book: &Book, r: u8) -> Result<Texts
     Ok(texts)
 }
 
-/// The same over the records of the texts joined in their order, as of a job before it in a chain.
-/// No record there has more than 131,050 bytes.
+/// The same over the records of the texts joined in their order, as of a job before it in a chain, for
+/// 1 to 8 partitions. No record there has more than 131,050 bytes.
 pub fn block_lines<J: Job>(alloc: Global, job: &J, texts: &Texts, r: u8) -> Result<Texts, NoMemory>
     requires some { 1 ≤ r }
     requires few { r ≤ 8 }

@@ -15,7 +15,7 @@ use std::marker::Model;
 const LEAST: usize = 32_768;
 
 // Pairs of one partition. They are combined when they have doubled since the last time, so there are
-// about as many as distinct keys, however many map emits.
+// about as many as combine leaves, however many map emits.
 #[derive(Drop)]
 pub(crate) struct Gathered {
     pairs: Vec<Pair>,

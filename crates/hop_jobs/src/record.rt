@@ -32,9 +32,9 @@ pub(crate) fn last_tab(line: &[u8]) -> Option<usize>
     memrchr(b'\t', line)
 }
 
-/// The number, where these are 1 to 20 decimal digits whose value is below 2^64. Leading zeros are
-/// allowed, a sign is not.
-pub fn read_number(digits: &[u8]) -> Option<u64>
+// The number, where these are 1 to 20 decimal digits whose value is below 2^64. Leading zeros are
+// allowed, a sign is not.
+pub(crate) fn read_number(digits: &[u8]) -> Option<u64>
     ensures { result ≡ number_of digits.now }
 {
     if digits.is_empty() || digits.len() > 20 {

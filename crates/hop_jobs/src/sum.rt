@@ -5,8 +5,9 @@ use hop_base::{Blob, NoMemory, Pair, Val};
 use hop_laws::Job;
 use std::alloc::Global;
 
-/// Adds up the numbers of each key, up to 2^64 - 1. A record is a key, a tab and 1 to 20 decimal
-/// digits of a number below 2^64; any other record emits nothing. Its name is `sum`.
+/// Adds up the numbers of each key, up to 2^64 - 1. A record is read at its last tab: before it stands
+/// the key, which may be empty and may hold tabs, and behind it 1 to 20 decimal digits of a number
+/// below 2^64. Any other record emits nothing. Its name is `sum`.
 #[derive(Clone, Copy, Debug)]
 pub struct Sum;
 

@@ -8,14 +8,13 @@ use hop_base::{Blob, NoMemory, Pair, Val};
 use std::alloc::Global;
 
 /// A job of map and reduce with a combiner, as in MapReduce (OSDI 2004): map emits pairs for each
-/// record, and reduce writes text for each key and its values. Combine may replace values of a key
-/// by fewer, as often as one likes, before they are reduced.
+/// record, and reduce writes text for each key and its values. Before they are reduced, combine may
+/// replace values of a key by others, no more of them and no longer, as often as one likes.
 pub trait Job {
     /// What its calls give, as functions of a record, and of a key with its values in order.
     ghost meaning: { Self → Meaning };
 
-    /// The job's name, of one or more bytes, without line feed and space. `NoMemory` comes where
-    /// there is no memory for it.
+    /// The job's name, of one or more bytes, without line feed and space.
     fn name(&self, alloc: Global) -> Result<Blob, NoMemory>
         ensures { IfOk result (λ name. name ≡ (meaning self.now).name) };
 

@@ -2,8 +2,9 @@
 ghost use Rattle.std.specs.Prelude.{◌≡◌, ◌<◌, ◌≤◌};
 ghost use Rattle.hop_laws.specs.Partition.{partition_of};
 
-/// The partition of a key among `r` reducers, 0 to `r` - 1. It is a hash of the key's bytes modulo
-/// `r`: the hash starts at 0, and each byte b makes it 31 times itself plus b, modulo 2^32.
+/// The partition of a key among `r` reducers, 1 to 8 of them: 0 to `r` - 1. It is a hash of the key's
+/// bytes modulo `r`: the hash starts at 0, and each byte b makes it 31 times itself plus b, modulo
+/// 2^32.
 pub fn partition(key: &[u8], r: u8) -> u8
     requires some { 1 ≤ r }
     requires few { r ≤ 8 }

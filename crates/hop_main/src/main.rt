@@ -54,24 +54,24 @@ fn report(rt: &HostRuntime, answer: &Outcome) {
     }
 }
 
-// Says how the call ended, and gives its status.
-fn ended(rt: &HostRuntime, answer: &Outcome) -> ExitCode {
-    report(rt, answer);
-    ExitCode::from(status(answer))
+// The end where there was no memory to begin with: the status alone, and nothing is printed.
+fn without_memory() -> ExitCode {
+    ExitCode::from(status(&Outcome::NoMemory))
 }
 
 fn main(rt: HostRuntime) -> ExitCode {
     let alloc = rt.alloc();
     let Ok(words) = words_of(&rt) else {
-        return ended(&rt, &Outcome::NoMemory);
+        return without_memory();
     };
     let Ok(folder) = DiskFolder::new(rt, ".") else {
-        return ended(&rt, &Outcome::NoMemory);
+        return without_memory();
     };
     let Ok(spills) = spills_of(rt) else {
-        return ended(&rt, &Outcome::NoMemory);
+        return without_memory();
     };
     let mut out = StdSink::new(rt);
     let handed = hop(&rt, alloc, &words, folder, spills, &mut out, &OpenGate);
-    ended(&rt, &handed.answer)
+    report(&rt, &handed.answer);
+    ExitCode::from(status(&handed.answer))
 }

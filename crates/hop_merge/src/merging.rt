@@ -14,7 +14,8 @@ use std::alloc::Global;
 
 /// What merging the runs one after the other gives, from the first to the last: the pairs of all of
 /// them in order, and their parts joined in their order. No runs give the empty run. It merges by
-/// halves, so each pair is copied once for each doubling of the number of runs.
+/// halves, so each pair is copied once out of its run, and once more for each doubling of the number
+/// of runs.
 pub fn merge_all(alloc: Global, runs: &[Run]) -> Result<Run, NoMemory>
     ensures sheet { IfOk result (λ run. run.sheet ≡ ord pair_cmp (flat_map (λ r. r.sheet) runs.now)) }
     ensures parts { IfOk result (λ run. run.parts ≡ flat_map (λ r. r.parts) runs.now) }

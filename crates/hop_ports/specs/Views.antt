@@ -3,13 +3,13 @@ use Rattle.std.specs.Prelude.{ℕ, List, ◌++◌, Option, option_map}
 use Rattle.std.specs.FinMap as map
 use Rattle.hop_base.specs.Files.{Files}
 
--- what a folder holds, where it tells it, and how often a get and a put of it failed
+-- what a folder holds, where it tells it, and its counts of faults in gets and in puts
 pub record FolderView : Type 0 where
   pub held : Option Files
   pub gets : ℕ
   pub puts : ℕ
 
--- the bytes that a sink took, where it tells them, and how often a write to it failed
+-- the bytes that a sink took, where it tells them, and its count of faults
 pub record SinkView : Type 0 where
   pub taken : Option (List ℕ)
   pub faults : ℕ

@@ -14,6 +14,9 @@ use std::{fs, io};
 /// The most bytes that are read at once.
 const PIECE: u64 = 65_536;
 
+/// The least size of the buffer, also where the system gives no size of the file, as of a pipe.
+const LEAST_PIECE: u64 = 4_096;
+
 /// A directory of the file system. It doesn't tell contracts what it holds: what the file system does
 /// is trusted.
 ///
@@ -133,7 +136,8 @@ fn read_at_most<F: Read>(
         return Err(GetFault::NoMemory);
     };
     // One byte more than expected shows the end of the file without a further piece.
-    let Ok(mut buffer) = vec![in alloc; 0u8; expected.min(max).min(PIECE - 1) as usize + 1] else {
+    let size = expected.min(max).min(PIECE - 1).max(LEAST_PIECE - 1) as usize + 1;
+    let Ok(mut buffer) = vec![in alloc; 0u8; size] else {
         return Err(GetFault::NoMemory);
     };
     for _ in 0..u64::MAX {

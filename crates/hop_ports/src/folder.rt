@@ -9,15 +9,17 @@ use thiserror::Error;
 /// Why a get has no bytes.
 #[derive(Clone, Copy, Debug, PartialEq, Eq, Error)]
 pub enum GetFault {
-    /// Nothing is held under the name.
+    /// Nothing is held under the name. Of a folder that doesn't tell what it holds, it comes only where
+    /// the count of faults in gets rose in this call.
     #[error("no such file")]
     Missing,
-    /// The file has more bytes than were asked for.
+    /// The file has more bytes than were asked for; of a folder that doesn't tell, as for `Missing`.
     #[error("the file is too long")]
     TooLong,
     /// The folder failed. It comes only where the count of faults in gets rose in this call.
     #[error("the file can't be read")]
     Failed,
+    /// No memory was to be had. Nothing changed.
     #[error("no memory")]
     NoMemory,
 }
@@ -35,7 +37,8 @@ pub enum PutFault {
 }
 
 /// Bytes by name. A folder may tell contracts what it holds, as one in memory does, or not, as one on
-/// disk. It counts the gets and the puts that failed; neither count falls, and a count that stands at
+/// disk. It has a count of faults in gets and one of faults in puts, and says itself which calls raise
+/// them: `Failed` always does, and `NoMemory` never. Neither count falls, and one that stands at
 /// 2^64 - 1 counts as risen.
 pub trait Folder {
     /// What the folder holds, where it tells it, and its two counts of faults.

@@ -16,8 +16,8 @@ pub enum SayFault {
 }
 
 /// What takes bytes in order. A sink may tell contracts what it took, as one in memory does, or not,
-/// as standard output. It counts the writes that failed; the count doesn't fall, and one that stands
-/// at 2^64 - 1 counts as risen.
+/// as standard output. It has a count of faults: `Failed` always raises it, it doesn't fall, and one
+/// that stands at 2^64 - 1 counts as risen.
 pub trait Sink {
     /// What the sink took, where it tells it, and its count of faults.
     ghost seen: { Self → SinkView };

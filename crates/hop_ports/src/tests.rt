@@ -28,7 +28,7 @@ fn folders_and_sinks_in_memory(rt: HostRuntime) -> Result<(), Fail> {
     assert_eq!(rt; sink.taken(), b"ac".as_slice());
     OpenGate.pass(Point::Merged { merger: 0 });
     let mut out = StdSink::new(rt);
-    let _ = out.write(b"said\n");
+    assert_eq!(rt; out.write(b"said\n"), Ok(()));
     Ok(())
 }
 

@@ -23,7 +23,7 @@ is_long bytes = nat_lt 65535 (length bytes)
 abbrev pub first_long : List (List ℕ) → Option ℕ
 first_long rs = position_from is_long 0 rs
 
--- a record as long as one may be
+-- a record within the limit
 abbrev pub IsShort : List ℕ → Type 0
 IsShort bytes = length bytes ≤ 65535
 

@@ -47,7 +47,7 @@ impl Model for Book {
 }
 
 impl Book {
-    /// The book of these bytes, at most 16,777,216, with `split` records a split.
+    /// The book of these bytes, at most 16,777,216, with `split` records a split, at least 1.
     ///
     /// `RecordTooLong` comes exactly where a record has more than 65,535 bytes, with the first such
     /// record; otherwise `TooManySplits` exactly where there are more than 1,024 splits.
@@ -140,8 +140,8 @@ impl Book {
         self.record(k as u32)
     }
 
-    /// How many spills one attempt of each split makes, where a spill has `spill` records: the sum over
-    /// the splits of their records divided by `spill`, rounded up.
+    /// How many spills one attempt of each split makes, where a spill has `spill` records, at least 1:
+    /// the sum over the splits of their records divided by `spill`, rounded up.
     pub fn spills(&self, spill: u32) -> u64
         requires { 1 ≤ spill }
         ensures { result ≡ spill_count self.now spill }

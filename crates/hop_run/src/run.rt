@@ -53,8 +53,9 @@ impl Run {
         Run { sheet, parts }
     }
 
-    /// The sorted pairs of the part's records in partition `p` of `r`. The part lies in a split of the
-    /// book. `NoMemory` comes where they don't fit.
+    /// The sorted pairs of the part's records in partition `p` of `r`, where `r` is at most 8 and `p`
+    /// below it. The part lies in a split of the book: it begins no later than it ends, and ends no
+    /// later than the split.
     pub fn make<J: Job>(
         alloc: Global,
         job: &J,

@@ -1,5 +1,5 @@
 -- What follows from the contract of the top call alone.
-use Rattle.std.proofs.Common.{◌≡◌, ℕ, ◌<◌, ◌≤◌, List, [], ◌∷◌, ◌⊎◌, inl, inr, Option, None, Some, length, refl, sym, ap, ◌∙◌, subst, arith}
+use Rattle.std.proofs.Common.{◌≡◌, ℕ, ◌≤◌, List, [], ◌∷◌, ◌⊎◌, inl, inr, Option, None, Some, length, refl, ap, ◌∙◌, subst, arith}
 use Rattle.std.specs.Option.{IfSome, MatchOption}
 use Rattle.std.specs.List.{AllByRecursion}
 use Rattle.std.specs.FinMap as map
@@ -10,7 +10,7 @@ use Rattle.hop_ports.specs.Views.{FolderView, SinkView}
 use Rattle.hop_ports.specs.Causes.{IsLonger}
 use Rattle.hop_words.specs.Options.{Asked}
 use Rattle.hop_top.specs.Work.{Accepted, IsRead, IsReadable, Wanted, bytes_of, reads_of, refusal_of}
-use Rattle.hop_top.specs.Meets.{FirstUnread, IsAbsent, IsLong, MeetsCommand}
+use Rattle.hop_top.specs.Meets.{FirstUnread, IsAbsent, IsLong, MeetsCommand, MeetsNothing}
 use Rattle.hop_top.specs.declared.outcome.Outcome.{Outcome}
 use Rattle.hop_top.specs.declared.outcome.Outcome.TheVariants as outcome
 use Rattle.hop_top.specs.declared.outcome.Refusal.TheVariants as refusal
@@ -48,17 +48,28 @@ refused_clash (Some fs) files command settings answer e accepted refused =
     let some : refusal_of command settings fs ≡ Some answer = refused.1 in
     cc
 
-module _ (old new : FolderView) (heard hears : SinkView) (command : Asked) (settings : RunSettings) (files : Files) (held : old.held ≡ Some files) where
+-- words that ask for nothing are answered by Usage, or memory was wanting
+pub nothing_asked : (old new : FolderView) (out_old out_new : SinkView) (answer : Outcome) → MeetsNothing old new out_old out_new answer
+    → (answer ≡ outcome.Usage) ⊎ (answer ≡ outcome.NoMemory)
+nothing_asked old new out_old out_new outcome.Usage meets = inl refl
+nothing_asked old new out_old out_new outcome.NoMemory meets = inr refl
+nothing_asked old new out_old out_new outcome.Done meets = absurd meets
+nothing_asked old new out_old out_new (outcome.InputFailed file) meets = absurd meets
+nothing_asked old new out_old out_new (outcome.InputRefused why) meets = absurd meets
+nothing_asked old new out_old out_new outcome.FolderFailed meets = absurd meets
+nothing_asked old new out_old out_new outcome.SayFailed meets = absurd meets
+
+module _ (old new : FolderView) (out_old out_new : SinkView) (command : Asked) (settings : RunSettings) (files : Files) (held : old.held ≡ Some files) where
   -- an input that is there is read, where no get failed
-  pub no_input_fails : (answer : Outcome) → MeetsCommand old new heard hears command settings answer → IsRead command files → (Rose old.gets new.gets → ⊥)
+  pub no_input_fails : (answer : Outcome) → MeetsCommand old new out_old out_new command settings answer → IsRead command files → (Rose old.gets new.gets → ⊥)
       → (file : _) → answer ≡ outcome.InputFailed file → ⊥
   no_input_fails answer meets read quiet file e =
-      let at = subst (MeetsCommand old new heard hears command settings) e meets in
+      let at = subst (MeetsCommand old new out_old out_new command settings) e meets in
       none_unread _ (IsAbsent old new file) (IsReadable files) (reads_of command) read (λ w readable absent. absent_clash old.held files w (Rose old.gets new.gets) held readable quiet absent.1) at.0
 
   -- what is accepted is done, where no count rose and memory is there
-  pub complete : (answer : Outcome) → MeetsCommand old new heard hears command settings answer → Accepted command settings files
-      → (Rose old.gets new.gets → ⊥) → (Rose old.puts new.puts → ⊥) → (Rose heard.faults hears.faults → ⊥) → (answer ≡ outcome.Done) ⊎ (answer ≡ outcome.NoMemory)
+  pub complete : (answer : Outcome) → MeetsCommand old new out_old out_new command settings answer → Accepted command settings files
+      → (Rose old.gets new.gets → ⊥) → (Rose old.puts new.puts → ⊥) → (Rose out_old.faults out_new.faults → ⊥) → (answer ≡ outcome.Done) ⊎ (answer ≡ outcome.NoMemory)
   complete outcome.Done meets accepted gets puts faults = inl refl
   complete outcome.NoMemory meets accepted gets puts faults = inr refl
   complete outcome.Usage meets accepted gets puts faults = absurd meets

@@ -1,5 +1,5 @@
--- From what was put and said to what the outcome says of the whole call.
-use Rattle.std.proofs.Common.{◌≡◌, ℕ, ◌≤◌, List, [], ◌∷◌, ◌++◌, ◌⊎◌, inl, inr, Option, None, Some, take, length, unwrap_or, codes, decimal, refl, sym, ap, ◌∙◌}
+-- From what was put and written to what the outcome says of the whole call.
+use Rattle.std.proofs.Common.{◌≡◌, ℕ, ◌≤◌, List, [], ◌∷◌, ◌++◌, inl, inr, Option, None, Some, take, length, unwrap_or, refl, sym, ap, ◌∙◌}
 use Rattle.std.specs.Option.{IfSome}
 use Rattle.std.specs.FinMap as map
 use Rattle.hop_base.specs.Files.{Files}
@@ -37,38 +37,38 @@ MayDo old command settings work = IfSome old.held (λ files. Accepted command se
 does : (old : FolderView) (command : Asked) (settings : RunSettings) (work : Work) (P : Work → Type 0) → MayDo old command settings work → P work → Does old command settings P
 does old command settings work P may holds = if_some_more old.held _ _ (λ files accepted. (accepted.0, (work, accepted.1, holds))) may
 
-module _ (old middle new : FolderView) (heard hears : SinkView) (command : Asked) (settings : RunSettings) (early files : Puts) (summary : List ℕ)
+module _ (old middle new : FolderView) (out_old out_new : SinkView) (command : Asked) (settings : RunSettings) (early files : Puts) (summary : List ℕ)
     (may : MayDo old command settings (record { early = early; files = files; summary = summary })) (held : middle.held ≡ with_files old.held early) where
-  stopped : HandsFirst middle new heard hears files summary → Stopped old new heard hears command settings
+  stopped : HandsFirst middle new out_old out_new files summary → Stopped old new out_old out_new command settings
   stopped first = record {
     files = inr (does old command settings _ _ may
         (first.put.0, first.put.1 ∙ ap (λ h. with_files h (take first.put.0 files)) held ∙ sym (with_files-append old.held early (take first.put.0 files))));
     taken = first.taken;
   }
 
-  unsaid : HandsUnsaid middle new heard hears files summary → Unsaid old new heard hears command settings
+  unsaid : HandsUnsaid middle new out_old out_new files summary → Unsaid old new out_old out_new command settings
   unsaid hands = does old command settings _ _ may (hands.held ∙ ap (λ h. with_files h files) held ∙ sym (with_files-append old.held early files), hands.said)
 
 -- the end of a command: its early files are put, and it hands out the others and the summary
-pub meets_at_end : (old middle new : FolderView) (heard hears : SinkView) (command : Asked) (settings : RunSettings) (early files : Puts) (summary : List ℕ) (answer : Outcome)
+pub meets_at_end : (old middle new : FolderView) (out_old out_new : SinkView) (command : Asked) (settings : RunSettings) (early files : Puts) (summary : List ℕ) (answer : Outcome)
     → MayDo old command settings (record { early = early; files = files; summary = summary })
     → middle.held ≡ with_files old.held early → old.puts ≤ middle.puts
-    → HandsOut middle new heard hears files summary answer
-    → MeetsCommand old new heard hears command settings answer
-meets_at_end old middle new heard hears command settings early files summary outcome.Done may held later hands =
+    → HandsOut middle new out_old out_new files summary answer
+    → MeetsCommand old new out_old out_new command settings answer
+meets_at_end old middle new out_old out_new command settings early files summary outcome.Done may held later hands =
     does old command settings _ _ may (hands.held ∙ ap (λ h. with_files h files) held ∙ sym (with_files-append old.held early files), hands.said)
-meets_at_end old middle new heard hears command settings early files summary outcome.Usage may held later hands = absurd hands
-meets_at_end old middle new heard hears command settings early files summary (outcome.InputFailed file) may held later hands = absurd hands
-meets_at_end old middle new heard hears command settings early files summary (outcome.InputRefused (refusal.TooLong file)) may held later hands = absurd hands
-meets_at_end old middle new heard hears command settings early files summary (outcome.InputRefused (refusal.RecordTooLong index)) may held later hands = absurd hands
-meets_at_end old middle new heard hears command settings early files summary outcome.FolderFailed may held later hands =
-    (rose_later old.puts middle.puts new.puts later hands.0, stopped old middle new heard hears command settings early files summary may held hands.1)
-meets_at_end old middle new heard hears command settings early files summary outcome.SayFailed may held later hands =
-    (hands.0, unsaid old middle new heard hears command settings early files summary may held hands.1)
-meets_at_end old middle new heard hears command settings early files summary outcome.NoMemory may held later hands =
+meets_at_end old middle new out_old out_new command settings early files summary outcome.Usage may held later hands = absurd hands
+meets_at_end old middle new out_old out_new command settings early files summary (outcome.InputFailed file) may held later hands = absurd hands
+meets_at_end old middle new out_old out_new command settings early files summary (outcome.InputRefused (refusal.TooLong file)) may held later hands = absurd hands
+meets_at_end old middle new out_old out_new command settings early files summary (outcome.InputRefused (refusal.RecordTooLong index)) may held later hands = absurd hands
+meets_at_end old middle new out_old out_new command settings early files summary outcome.FolderFailed may held later hands =
+    (rose_later old.puts middle.puts new.puts later hands.0, stopped old middle new out_old out_new command settings early files summary may held hands.1)
+meets_at_end old middle new out_old out_new command settings early files summary outcome.SayFailed may held later hands =
+    (hands.0, unsaid old middle new out_old out_new command settings early files summary may held hands.1)
+meets_at_end old middle new out_old out_new command settings early files summary outcome.NoMemory may held later hands =
     inr (elim hands [
-      | inl first ↦ inl (stopped old middle new heard hears command settings early files summary may held first)
-      | inr said ↦ inr (unsaid old middle new heard hears command settings early files summary may held said)
+      | inl first ↦ inl (stopped old middle new out_old out_new command settings early files summary may held first)
+      | inr said ↦ inr (unsaid old middle new out_old out_new command settings early files summary may held said)
     ])
 
 same_work : {early files files' : Puts} {summary summary' : List ℕ} → files ≡ files' → summary ≡ summary' → ◌≡◌ {A = Work} (record { early = early; files = files; summary = summary }) (record { early = early; files = files'; summary = summary' })

@@ -49,4 +49,4 @@ puts_cause before middle after files i file Failed only held within is cause = (
   ],
 )
 puts_cause before middle after files i file NoMemory only held within is cause =
-    (i, cause ∙ held ∙ ap (with_files before.held) (sym (take-files_in i files)))
+    (i, cause.0 ∙ held ∙ ap (with_files before.held) (sym (take-files_in i files)))

@@ -34,11 +34,18 @@ module _ (old new : FolderView) where
   IsLong file wanted =
       (wanted.file ≡ file) × MatchOption old.held (Rose old.gets new.gets) (λ files. IsLonger wanted.most (map.get files wanted.name))
 
-module _ (old new : FolderView) (heard hears : SinkView) where
-  -- nothing was put and nothing was said
+module _ (old new : FolderView) (out_old out_new : SinkView) where
+  -- nothing was put and nothing was written: neither count of their faults rose
   pub record Untouched : Type 0 where
     pub held : new.held ≡ old.held
-    pub taken : hears.taken ≡ heard.taken
+    pub puts : new.puts ≡ old.puts
+    pub taken : out_new.taken ≡ out_old.taken
+    pub faults : out_new.faults ≡ out_old.faults
+
+  -- nothing was even read: the folder and the sink are as before, with all their counts
+  pub record AsBefore : Type 0 where
+    pub folder : new ≡ old
+    pub out : out_new ≡ out_old
 
   -- the first of the files that the command reads, of those that can't be read, has P
   abbrev pub Unread : Asked → (Wanted → Type 0) → Type 0
@@ -48,10 +55,10 @@ module _ (old new : FolderView) (heard hears : SinkView) where
   abbrev pub Refused : Asked → RunSettings → Outcome → Type 0
   Refused command settings answer = IfSome old.held (λ files. IsRead command files × (refusal_of command settings files ≡ Some answer))
 
-  -- all files were put and the summary was said
+  -- all files were put and the summary was written
   abbrev pub Finished : Asked → RunSettings → Type 0
   Finished command settings =
-      Does old command settings (λ work. (new.held ≡ with_files old.held (work.early ++ work.files)) × (hears.taken ≡ appended heard.taken work.summary))
+      Does old command settings (λ work. (new.held ≡ with_files old.held (work.early ++ work.files)) × (out_new.taken ≡ appended out_old.taken work.summary))
 
   -- while it ran, files were put that the command may put
   abbrev pub Early : Asked → RunSettings → Type 0
@@ -63,15 +70,15 @@ module _ (old new : FolderView) (heard hears : SinkView) where
   abbrev pub Late : Asked → RunSettings → Type 0
   Late command settings = Does old command settings (λ work. (k : ℕ) × (new.held ≡ with_files old.held (work.early ++ take k work.files)))
 
-  -- some files were put and nothing was said
+  -- some files were put and nothing was written
   pub record Stopped (command : Asked) (settings : RunSettings) : Type 0 where
     pub files : Early command settings ⊎ Late command settings
-    pub taken : hears.taken ≡ heard.taken
+    pub taken : out_new.taken ≡ out_old.taken
 
-  -- all files were put and a prefix of the summary was said
+  -- all files were put and a prefix of the summary was written
   abbrev pub Unsaid : Asked → RunSettings → Type 0
   Unsaid command settings =
-      Does old command settings (λ work. (new.held ≡ with_files old.held (work.early ++ work.files)) × TookPrefix heard hears work.summary)
+      Does old command settings (λ work. (new.held ≡ with_files old.held (work.early ++ work.files)) × TookPrefix out_old out_new work.summary)
 
   -- what the outcome says where the words ask for this command
   abbrev pub MeetsCommand : Asked → RunSettings → Outcome → Type 0
@@ -82,13 +89,13 @@ module _ (old new : FolderView) (heard hears : SinkView) where
   MeetsCommand command settings (outcome.InputRefused (refusal.RecordTooLong index)) =
       Refused command settings (outcome.InputRefused (refusal.RecordTooLong index)) × Untouched
   MeetsCommand command settings outcome.FolderFailed = Rose old.puts new.puts × Stopped command settings
-  MeetsCommand command settings outcome.SayFailed = Rose heard.faults hears.faults × Unsaid command settings
+  MeetsCommand command settings outcome.SayFailed = Rose out_old.faults out_new.faults × Unsaid command settings
   MeetsCommand command settings outcome.NoMemory = Untouched ⊎ (Stopped command settings ⊎ Unsaid command settings)
 
   -- what the outcome says where the words ask for nothing
   abbrev pub MeetsNothing : Outcome → Type 0
-  MeetsNothing outcome.Usage = Untouched
-  MeetsNothing outcome.NoMemory = Untouched
+  MeetsNothing outcome.Usage = AsBefore
+  MeetsNothing outcome.NoMemory = AsBefore
   MeetsNothing other = ⊥
 
   -- what the outcome says

@@ -26,26 +26,26 @@ abbrev pub PutsCause : FolderView → FolderView → Puts → PutFault → Type 
 PutsCause old new files Failed = Rose old.puts new.puts × PutFirst old new files
 PutsCause old new files NoMemory = PutFirst old new files
 
-module _ (old new : FolderView) (heard hears : SinkView) (files : Puts) (summary : List ℕ) where
-  -- the first files were put and nothing was said
+module _ (old new : FolderView) (out_old out_new : SinkView) (files : Puts) (summary : List ℕ) where
+  -- the first files were put and nothing was written
   pub record HandsFirst : Type 0 where
     pub put : PutFirst old new files
-    pub taken : hears.taken ≡ heard.taken
+    pub taken : out_new.taken ≡ out_old.taken
 
-  -- all files were put and a prefix of the summary was said
+  -- all files were put and a prefix of the summary was written
   pub record HandsUnsaid : Type 0 where
     pub held : new.held ≡ with_files old.held files
-    pub said : TookPrefix heard hears summary
+    pub said : TookPrefix out_old out_new summary
 
-  -- all files were put and the summary was said
+  -- all files were put and the summary was written
   pub record HandsAll : Type 0 where
     pub held : new.held ≡ with_files old.held files
-    pub said : hears.taken ≡ appended heard.taken summary
+    pub said : out_new.taken ≡ appended out_old.taken summary
 
-  -- how it ends to put files and to say a summary
+  -- how it ends to put files and to write a summary
   abbrev pub HandsOut : Outcome → Type 0
   HandsOut outcome.Done = HandsAll
   HandsOut outcome.FolderFailed = Rose old.puts new.puts × HandsFirst
-  HandsOut outcome.SayFailed = Rose heard.faults hears.faults × HandsUnsaid
+  HandsOut outcome.SayFailed = Rose out_old.faults out_new.faults × HandsUnsaid
   HandsOut outcome.NoMemory = HandsFirst ⊎ HandsUnsaid
   HandsOut other = ⊥

@@ -24,7 +24,7 @@ pub enum Refusal {
 pub enum Outcome {
     /// All files were put and the summary was written.
     Done,
-    /// The words ask for nothing that there is. Nothing was put or written.
+    /// The words ask for nothing that there is. Nothing was read, put or written.
     Usage,
     /// The file can't be read: it is absent, or the job folder failed. Nothing was put or written.
     InputFailed { file: File },

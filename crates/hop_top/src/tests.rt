@@ -3,8 +3,7 @@ ghost use Rattle.std.specs.Prelude.{◌≡◌, ◌≢◌, ◌⊎◌, None, Some,
 ghost use Rattle.hop_base.specs.Files.{Files};
 ghost use Rattle.hop_ports.specs.Clean.{clean_view};
 ghost use Rattle.hop_words.specs.Options.{AskedOptions, asked};
-ghost use Rattle.hop_top.specs.Complete.{NoneRose};
-ghost use Rattle.hop_top.specs.Work.{Accepted, IsRead};
+ghost use Rattle.hop_top.specs.Work.{IsRead};
 
 use crate::{File, Handed, Outcome, Refusal, fault_line, hop, hop_plain, status};
 use hop_base::{NoMemory, Words};
@@ -67,15 +66,15 @@ fn held<F: Folder>(alloc: Global, folder: &mut F, name: &str) -> Result<Vec<u8>,
     }
 }
 
-// A record of one byte, and one of so many.
-fn short_then_long(alloc: Global, len: usize) -> Result<Vec<u8>, AllocError> {
-    let mut input = Vec::from_slice(alloc, b"y\n")?;
+// These bytes, and so many `x` behind them.
+fn followed_by(alloc: Global, bytes: &[u8], len: usize) -> Result<Vec<u8>, AllocError> {
+    let mut input = Vec::from_slice(alloc, bytes)?;
     let long = vec![in alloc; b'x'; len]?;
     input.extend_from_slice(&long)?;
     Ok(input)
 }
 
-// Over a folder that can't fail, no fault of the folder is answered.
+// Over a folder that can't fail, no failed put is answered.
 fn over_clean(
     alloc: Global,
     words: &Words,
@@ -97,9 +96,8 @@ fn usage<F: Folder + Drop>(
     spills: Vec<CleanFolder>,
     out: &mut MemSink,
 ) -> Outcome
-    requires eight { vec_len spills ≡ 8 }
-    requires nothing { asked words.now ≡ None }
-    ensures { (result ≡ Outcome.Usage) ⊎ (result ≡ Outcome.NoMemory) }
+    requires { vec_len spills ≡ 8 }
+    ensures { asked words.now ≡ None → (result ≡ Outcome.Usage) ⊎ (result ≡ Outcome.NoMemory) }
 {
     hop_plain(alloc, words, folder, spills, out).answer
 }
@@ -119,106 +117,80 @@ fn over_clean_present(
     hop_plain(alloc, words, folder, spills, out).answer
 }
 
-// Where the words, the files and the records are accepted and no count of faults rose, the call is
-// done, or memory is wanting.
-fn accepted<F: Folder, V: Folder, O: Sink>(
-    alloc: Global,
-    words: &Words,
-    folder: F,
-    spills: Vec<V>,
-    out: &mut O,
-) -> Handed<Outcome, F, V>
-    requires { vec_len spills ≡ 8 }
-    ensures { (options : AskedOptions) (files : Files) → asked words.now ≡ Some options → (F.seen folder).held ≡ Some files
-        → Accepted options.command options.settings files → NoneRose (F.seen folder) (F.seen result.folder) (O.seen out.old) (O.seen out.new)
-        → (result.answer ≡ Outcome.Done) ⊎ (result.answer ≡ Outcome.NoMemory) }
-{
-    hop_plain(alloc, words, folder, spills, out)
-}
+// A command line and the input, and then part 0, part 1 and the summary that come of them.
+const WORKED: [(&[&str], &[u8], &str, &str, &str); 9] = [
+    (
+        &["block", "wc", "in"],
+        b"a b\nb c\na a\n",
+        "a\t3\nb\t2\nc\t1\n",
+        "",
+        "done records=3 parts=1\n",
+    ),
+    (
+        &["block", "wc", "in", "--reducers", "2"],
+        b"a b\nb c\na a\n",
+        "b\t2\n",
+        "a\t3\nc\t1\n",
+        "done records=3 parts=2\n",
+    ),
+    (
+        &["block", "wc", "in"],
+        b"x",
+        "x\t1\n",
+        "",
+        "done records=1 parts=1\n",
+    ),
+    (
+        &["block", "wc", "in"],
+        b"x\n\n",
+        "x\t1\n",
+        "",
+        "done records=2 parts=1\n",
+    ),
+    (
+        &["block", "wc", "in"],
+        b"",
+        "",
+        "",
+        "done records=0 parts=1\n",
+    ),
+    (
+        &["block", "sum", "in"],
+        b"k\t18446744073709551615\nk\t1\nk\t18446744073709551616\nk\t\nk\n",
+        "k\t18446744073709551615\n",
+        "",
+        "done records=5 parts=1\n",
+    ),
+    (
+        &["block", "top", "in", "--k", "2"],
+        b"b\t3\na\t3\nc\t5\nb\t3\n",
+        "c\t5\na\t3\n",
+        "",
+        "done records=4 parts=1\n",
+    ),
+    (
+        &["--k=4", "block", "top", "in"],
+        b"b\t3\na\t3\nc\t5\nb\t3\n",
+        "c\t5\na\t3\nb\t3\nb\t3\n",
+        "",
+        "done records=4 parts=1\n",
+    ),
+    (
+        &["block", "max", "--", "in"],
+        b"b\t3\na\t3\nc\t5\nb\t3\n",
+        "a\t3\nb\t3\nc\t5\n",
+        "",
+        "done records=4 parts=1\n",
+    ),
+];
 
 #[test]
 fn gives_the_worked_texts(rt: HostRuntime) -> Result<(), Fail> {
     let alloc = rt.alloc();
-    let counts: &[u8] = b"a b\nb c\na a\n";
-    let sums: &[u8] = b"k\t18446744073709551615\nk\t1\nk\t18446744073709551616\nk\t\nk\n";
-    let best: &[u8] = b"b\t3\na\t3\nc\t5\nb\t3\n";
-    let cases: [(&[&str], &[u8], &str, &str, &str); 12] = [
-        (
-            &["block", "wc", "in"],
-            counts,
-            "a\t3\nb\t2\nc\t1\n",
-            "",
-            "done records=3 parts=1\n",
-        ),
-        (
-            &["block", "wc", "in", "--reducers", "2"],
-            counts,
-            "b\t2\n",
-            "a\t3\nc\t1\n",
-            "done records=3 parts=2\n",
-        ),
-        (
-            &["block", "wc", "in"],
-            b"x",
-            "x\t1\n",
-            "",
-            "done records=1 parts=1\n",
-        ),
-        (
-            &["block", "wc", "in"],
-            b"x\n\n",
-            "x\t1\n",
-            "",
-            "done records=2 parts=1\n",
-        ),
-        (
-            &["block", "wc", "in"],
-            b"",
-            "",
-            "",
-            "done records=0 parts=1\n",
-        ),
-        (
-            &["block", "sum", "in"],
-            sums,
-            "k\t18446744073709551615\n",
-            "",
-            "done records=5 parts=1\n",
-        ),
-        (
-            &["block", "top", "in", "--k", "2"],
-            best,
-            "c\t5\na\t3\n",
-            "",
-            "done records=4 parts=1\n",
-        ),
-        (
-            &["--k=4", "block", "top", "in"],
-            best,
-            "c\t5\na\t3\nb\t3\nb\t3\n",
-            "",
-            "done records=4 parts=1\n",
-        ),
-        (
-            &["block", "max", "--", "in"],
-            best,
-            "a\t3\nb\t3\nc\t5\n",
-            "",
-            "done records=4 parts=1\n",
-        ),
-        (&[], counts, "", "", ""),
-        (&["run", "wc", "in", "--k", "0"], counts, "", "", ""),
-        (&["block", "wc", "in", "--marks", "5"], counts, "", "", ""),
-    ];
-    for (line, input, first, second, said) in cases {
+    for (line, input, first, second, summary) in WORKED {
         let mut out = MemSink::new(alloc, Vec::new(alloc));
         let mut handed = ran(alloc, line, with_input(alloc, input)?, &mut out)?;
-        let wanted = if said.is_empty() {
-            Outcome::Usage
-        } else {
-            Outcome::Done
-        };
-        assert_eq!(rt; handed.answer, wanted, "at {line:?}");
+        assert_eq!(rt; handed.answer, Outcome::Done, "at {line:?}");
         assert_eq!(rt;
             held(alloc, &mut handed.folder, "part-0")?.as_slice(),
             first.as_bytes(),
@@ -229,36 +201,92 @@ fn gives_the_worked_texts(rt: HostRuntime) -> Result<(), Fail> {
             second.as_bytes(),
             "at {line:?}"
         );
-        assert_eq!(rt; out.taken(), said.as_bytes(), "at {line:?}");
+        assert_eq!(rt; out.taken(), summary.as_bytes(), "at {line:?}");
+    }
+    Ok(())
+}
+
+// Call 1 puts the input and call 2 fails: it is the get behind the call, so nothing was read.
+#[test]
+fn reads_nothing_where_words_are_not_understood(rt: HostRuntime) -> Result<(), Fail> {
+    let alloc = rt.alloc();
+    let lines: [&[&str]; 5] = [
+        &[],
+        &["run", "wc", "in", "--k", "0"],
+        &["run", "wc"],
+        &["block", "wc", "in", "--marks", "5"],
+        &["run", "wc", "in", "--marks", "5,5"],
+    ];
+    for line in lines {
+        let mut folder = MemFolder::new(alloc, failing(alloc, Some(2))?);
+        folder.put("in", b"a b\nb c\na a\n")?;
+        let mut out = MemSink::new(alloc, Vec::new(alloc));
+        let mut handed = ran(alloc, line, folder, &mut out)?;
+        assert_eq!(rt; handed.answer, Outcome::Usage, "at {line:?}");
+        let next = handed.folder.get("in", 20);
+        assert_eq!(rt; next.err(), Some(GetFault::Failed), "at {line:?}");
+        let part = held(alloc, &mut handed.folder, "part-0")?;
+        assert!(rt; part.is_empty(), "at {line:?}");
+        assert!(rt; out.taken().is_empty(), "at {line:?}");
     }
     Ok(())
 }
 
 #[test]
-fn takes_records_up_to_their_limit(rt: HostRuntime) -> Result<(), Fail> {
+fn takes_a_record_of_the_greatest_length(rt: HostRuntime) -> Result<(), Fail> {
     let alloc = rt.alloc();
-    let cases = [
-        (65_535, Outcome::Done),
-        (
-            65_536,
-            Outcome::InputRefused(Refusal::RecordTooLong { index: 1 }),
-        ),
+    let input = followed_by(alloc, b"", 65_535)?;
+    let mut out = MemSink::new(alloc, Vec::new(alloc));
+    let folder = with_input(alloc, &input)?;
+    let mut handed = ran(alloc, &["block", "wc", "in"], folder, &mut out)?;
+    assert_eq!(rt; handed.answer, Outcome::Done);
+    let mut wanted = input;
+    wanted.extend_from_slice(b"\t1\n")?;
+    assert!(rt; handed.folder.get("part-0", 65_538)? == wanted);
+    assert_eq!(rt; out.taken(), b"done records=1 parts=1\n".as_slice());
+    Ok(())
+}
+
+#[test]
+fn names_the_first_record_that_is_too_long(rt: HostRuntime) -> Result<(), Fail> {
+    let alloc = rt.alloc();
+    let cases: [(&[u8], u32, &str); 2] = [
+        (b"", 0, "hop: record 0 is too long\n"),
+        (b"y\n", 1, "hop: record 1 is too long\n"),
     ];
-    for (len, wanted) in cases {
-        let input = short_then_long(alloc, len)?;
+    for (before, index, line) in cases {
+        let folder = with_input(alloc, &followed_by(alloc, before, 65_536)?)?;
         let mut out = MemSink::new(alloc, Vec::new(alloc));
-        let mut handed = ran(
-            alloc,
-            &["block", "wc", "in"],
-            with_input(alloc, &input)?,
-            &mut out,
-        )?;
-        assert_eq!(rt; handed.answer, wanted, "at {len}");
-        let is_done = wanted == Outcome::Done;
-        let part = handed.folder.get("part-0", 70_000);
-        assert_eq!(rt; part.is_ok(), is_done, "at {len}");
-        assert_eq!(rt; out.taken().is_empty(), !is_done, "at {len}");
+        let mut handed = ran(alloc, &["block", "wc", "in"], folder, &mut out)?;
+        let refused = Outcome::InputRefused(Refusal::RecordTooLong { index });
+        assert_eq!(rt; handed.answer, refused);
+        assert_eq!(rt; status(&handed.answer), 3);
+        assert_eq!(rt;
+            fault_line(alloc, &handed.answer)?.as_slice(),
+            line.as_bytes()
+        );
+        assert_eq!(rt;
+            handed.folder.get("part-0", 9).err(),
+            Some(GetFault::Missing)
+        );
+        assert!(rt; out.taken().is_empty());
     }
+    Ok(())
+}
+
+#[test]
+fn refuses_an_input_of_one_byte_too_many(rt: HostRuntime) -> Result<(), Fail> {
+    let alloc = rt.alloc();
+    let folder = with_input(alloc, &followed_by(alloc, b"", 16_777_217)?)?;
+    let mut out = MemSink::new(alloc, Vec::new(alloc));
+    let mut handed = ran(alloc, &["block", "wc", "in"], folder, &mut out)?;
+    let refused = Outcome::InputRefused(Refusal::TooLong { file: File::Input });
+    assert_eq!(rt; handed.answer, refused);
+    assert_eq!(rt;
+        handed.folder.get("part-0", 9).err(),
+        Some(GetFault::Missing)
+    );
+    assert!(rt; out.taken().is_empty());
     Ok(())
 }
 
@@ -360,13 +388,13 @@ fn laws_hold_at_a_call(rt: HostRuntime) -> Result<(), Fail> {
         &mut out,
     );
     assert_eq!(rt; answer, Outcome::Done);
-    let handed = accepted(
+    let answer = usage(
         alloc,
-        &asks,
+        &words(alloc, &["block"])?,
         with_input(alloc, b"a\n")?,
         eight(alloc)?,
         &mut out,
     );
-    assert_eq!(rt; handed.answer, Outcome::Done);
+    assert_eq!(rt; answer, Outcome::Usage);
     Ok(())
 }

@@ -1,6 +1,7 @@
 //! The top call.
 ghost use Rattle.std.specs.Prelude.{◌≡◌, map, vec_len};
 ghost use Rattle.hop_words.specs.Options.{HasNames, asked, command_of, settings_of};
+ghost use Rattle.hop_top.specs.Complete.{IsComplete};
 ghost use Rattle.hop_top.specs.Meets.{Meets, MeetsCommand};
 
 use crate::block::block;
@@ -61,6 +62,7 @@ pub fn hop_plain<F: Folder, V: Folder, O: Sink>(
 ) -> Handed<Outcome, F, V>
     requires { vec_len spills ≡ 8 }
     ensures meets { Meets (F.seen folder) (F.seen result.folder) (O.seen out.old) (O.seen out.new) (asked words.now) result.answer }
+    ensures complete { IsComplete (F.seen folder) (F.seen result.folder) (O.seen out.old) (O.seen out.new) (asked words.now) result.answer }
     ensures spills { map V.seen result.spills.items ≡ map V.seen spills.items }
 {
     let mut folder = folder;
@@ -90,6 +92,7 @@ where
     G: Gate + Sync,
     requires { vec_len spills ≡ 8 }
     ensures meets { Meets (F.seen folder) (F.seen result.folder) (O.seen out.old) (O.seen out.new) (asked words.now) result.answer }
+    ensures complete { IsComplete (F.seen folder) (F.seen result.folder) (O.seen out.old) (O.seen out.new) (asked words.now) result.answer }
     ensures spills { map V.seen result.spills.items ≡ map V.seen spills.items }
 {
     let _ = rt;

@@ -2,11 +2,11 @@
 #![tactic(auto)]
 
 pub mod fault;
-pub mod names;
-pub mod numbers;
+mod names;
+mod numbers;
 pub mod options;
-pub mod parse;
-pub mod read;
+mod parse;
+mod read;
 #[cfg(test)]
 mod tests;
 

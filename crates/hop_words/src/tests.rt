@@ -75,15 +75,40 @@ fn reads_the_forms_of_block(rt: HostRuntime) -> Result<(), Fail> {
 #[test]
 fn refuses_what_is_no_command(rt: HostRuntime) -> Result<(), Fail> {
     let alloc = rt.alloc();
-    let cases: [&[&str]; 32] = [
+    let cases: [&[&str]; 22] = [
         &[],
         &["block"],
         &["block", "wc"],
         &["block", "wc", "in", "in"],
         &["block", "sort", "in"],
         &["Block", "wc", "in"],
+        &["run", "wc"],
         &["run", "wc", "in"],
+        &["run", "wc", "in", "--k", "0"],
+        &["run", "wc", "in", "--marks", "5,5"],
         &["gen", "1", "1", "g"],
+        &["block", "wc", "in", "--marks", "5"],
+        &["block", "wc", "in", "-k", "3"],
+        &["block", "wc", "in", "-"],
+        &["block", "wc", "-"],
+        &["block", "wc", "--", "--k"],
+        &["--help"],
+        &["block", "wc", ""],
+        &["block", "wc", "a/b"],
+        &["block", "wc", ".in"],
+        &["block", "wc", "in\u{e9}"],
+        &["block", "wc", "in", "--\u{e9}", "3"],
+    ];
+    for line in cases {
+        assert_eq!(rt; asked(alloc, line)?.as_str(), "", "at {line:?}");
+    }
+    Ok(())
+}
+
+#[test]
+fn refuses_what_is_no_value(rt: HostRuntime) -> Result<(), Fail> {
+    let alloc = rt.alloc();
+    let cases: [&[&str]; 13] = [
         &["block", "wc", "in", "--k"],
         &["block", "wc", "in", "--k", "--reducers", "2"],
         &["block", "wc", "in", "--k", "--"],
@@ -97,17 +122,6 @@ fn refuses_what_is_no_command(rt: HostRuntime) -> Result<(), Fail> {
         &["block", "wc", "in", "--k", "000000000000000000003"],
         &["block", "wc", "in", "--k", "18446744073709551619"],
         &["block", "wc", "in", "--reducers", "9"],
-        &["block", "wc", "in", "--marks", "5"],
-        &["block", "wc", "in", "-k", "3"],
-        &["block", "wc", "in", "-"],
-        &["block", "wc", "-"],
-        &["block", "wc", "--", "--k"],
-        &["--help"],
-        &["block", "wc", ""],
-        &["block", "wc", "a/b"],
-        &["block", "wc", ".in"],
-        &["block", "wc", "in\u{e9}"],
-        &["block", "wc", "in", "--\u{e9}", "3"],
     ];
     for line in cases {
         assert_eq!(rt; asked(alloc, line)?.as_str(), "", "at {line:?}");
