@@ -13,7 +13,7 @@ use Rattle.hop_event.specs.History.{upto, winner, is_revoked}
 use Rattle.hop_event.specs.declared.event.Event.TheVariants.{Arrive, Ignore}
 use Rattle.hop_event.specs.declared.event.Via.{Via}
 use Rattle.hop_event.specs.Coverage.{first_reached}
-use Rattle.hop_event.specs.Legal.{Rules, GrowsLegally, GoesOn, restart_due, is_finished}
+use Rattle.hop_event.specs.Legal.{Rules, GrowsLegally, GoesOn, restart_due}
 use Rattle.hop_shelf.specs.Journal.{JournalValue, AddsEvent}
 use Rattle.hop_shelf.specs.declared.shelf.Arrived.{Arrived}
 use Rattle.hop_shelf.specs.declared.shelf.Arrived.TheVariants.{Taken, Ignored}
@@ -67,13 +67,12 @@ pub record ShelfValue : Type 0 where
   pub kept : List Kept
   pub room : ℕ
 
--- there is room for one event, neither a cut nor a restart is due, and the history isn't finished
+-- there is room for one event, and neither a cut nor a restart is due
 pub record MayGrow (s : ShelfValue) : Type 0 where
   pub spare : 1 ≤ s.journal.spare
   pub room : 1 ≤ s.room
   pub no_cut : s.journal.due ≡ []
   pub no_restart : restart_due s.journal.restarts s.journal.events ≡ false
-  pub unfinished : is_finished s.journal.events ≡ false
 
 abbrev pub owner_by : Option ℕ → ℕ → ℕ → Owner
 owner_by None i a = Attempt i a
