@@ -1,6 +1,8 @@
 pub mod Chains
 pub mod CutLaws
 pub mod JournalLaws
+pub mod KnownLaws
+pub mod MarkLaws
 pub mod OwnerLaws
 pub mod Places
 pub mod PlainLaws

@@ -5,7 +5,7 @@ use Rattle.hop_event.specs.declared.event.Event.TheVariants.{Arrive, Ignore, Won
 use Rattle.hop_event.specs.Legal.{restart_due}
 use Rattle.hop_event.specs.Coverage.{first_reached}
 use Rattle.hop_shelf.specs.Finish.{IsBelow, NamesBelow}
-use Rattle.hop_shelf.specs.Journal.{JournalValue, AddsEvent, IsBeginning}
+use Rattle.hop_shelf.specs.Journal.{JournalValue, AddsEvent}
 use Rattle.hop_shelf.specs.Plain.{IsPlain}
 
 never_due : (h : List Event) → restart_due [] h ≡ false

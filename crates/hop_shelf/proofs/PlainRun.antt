@@ -1,6 +1,5 @@
 -- The run of the tests is one.
 use Rattle.std.proofs.Common.{ℕ, ◌≤◌, List, length, arith}
-use Rattle.std.specs.List.{AllByRecursion}
 use Rattle.std.proofs.lemmas.List.Elements.{All-from_recursion}
 use Rattle.hop_jobs.specs.Wc.{wc_meaning}
 use Rattle.hop_jobs.specs.WcLaws.{wc_lawful}

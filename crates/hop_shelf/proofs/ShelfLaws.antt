@@ -1,7 +1,6 @@
 -- What each call leaves of a sound shelf.
-use Rattle.std.proofs.Common.{◌≡◌, ◌≢◌, ℕ, ◌<◌, ◌≤◌, inl, inr, Bool, true, false, cond, if◌then◌else◌, Option, Some, None, List, [], ◌∷◌, ◌++◌, length, map, filter, set, get_or, slice_index, refl, sym, ap, ◌∙◌, subst, arith, eqb, ◌==◌}
+use Rattle.std.proofs.Common.{◌≡◌, ◌≢◌, ℕ, ◌<◌, ◌≤◌, inr, Bool, true, false, cond, if◌then◌else◌, Option, Some, None, List, [], ◌∷◌, ◌++◌, length, map, filter, set, get_or, slice_index, refl, sym, ap, ◌∙◌, subst, arith, eqb, ◌==◌}
 use Rattle.std.specs.Prelude.{All, IsTrue}
-use Rattle.std.proofs.lemmas.Bool.{false≢true}
 use Rattle.std.proofs.lemmas.Bool.Decides.{nat_tests}
 use Rattle.std.proofs.lemmas.List.{get_or_read}
 use Rattle.std.proofs.lemmas.List.Elements.{All-set, All-push, All-weaker, All-map, All-filter, recursion_from_All}
@@ -15,7 +14,7 @@ use Rattle.hop_event.specs.declared.event.Event.TheVariants.{Arrive, Ignore, Won
 use Rattle.hop_event.specs.declared.event.Via.{Via}
 use Rattle.hop_event.specs.declared.event.Via.TheVariants.{Lane, Late, Pull}
 use Rattle.hop_event.specs.History.{upto, winner, is_revoked}
-use Rattle.hop_base.specs.Ranges.{AreLens}
+use Rattle.hop_base.specs.Ranges.{AreLens, AreMarks}
 use Rattle.hop_base.specs.Run.{restarts_of}
 use Rattle.hop_event.specs.Legal.{NoFinish, IsLegal, IsFinished, IsAttempt, MayCome, Rules, GrowsLegally, IsRange, IsWorker, CameByLane, GoesOn, MayWin, MayBeRevoked, no_other, restart_due, IsWon, AllSettled, AllWon}
 use Rattle.hop_shelf.specs.Finish.{AllDone, IsBelow, NamesBelow}
@@ -63,6 +62,7 @@ module _ (rules : Rules) (p : ℕ) (marks : List ℕ) (tentative : Bool) (tells 
         lens = a.lens ∙ s.lens;
         ranges = subst AreLens (sym a.lens) s.ranges;
         marks_are = a.marks ∙ s.marks_are;
+        marked = s.marked;
         tentative_is = a.tentative ∙ s.tentative_is;
         due = inr a.due;
         by_records = s.by_records;
@@ -78,6 +78,7 @@ module _ (rules : Rules) (p : ℕ) (marks : List ℕ) (tentative : Bool) (tells 
     lens = a.lens ∙ s.lens;
     ranges = subst AreLens (sym a.lens) s.ranges;
     marks_are = a.marks ∙ s.marks_are;
+    marked = s.marked;
     tentative_is = a.tentative ∙ s.tentative_is;
     due = inr a.due;
     by_records = s.by_records;
@@ -93,6 +94,7 @@ module _ (rules : Rules) (p : ℕ) (marks : List ℕ) (tentative : Bool) (tells 
     lens = e.lens ∙ s.lens;
     ranges = subst AreLens (sym e.lens) s.ranges;
     marks_are = e.marks ∙ s.marks_are;
+    marked = s.marked;
     tentative_is = e.tentative ∙ s.tentative_is;
     due = inr e.due;
     by_records = s.by_records;
@@ -108,6 +110,7 @@ module _ (rules : Rules) (p : ℕ) (marks : List ℕ) (tentative : Bool) (tells 
     lens = e.lens ∙ s.lens;
     ranges = subst AreLens (sym e.lens) s.ranges;
     marks_are = e.marks ∙ s.marks_are;
+    marked = s.marked;
     tentative_is = e.tentative ∙ s.tentative_is;
     due = inr e.due;
     by_records = s.by_records;
@@ -127,6 +130,7 @@ module _ (rules : Rules) (p : ℕ) (marks : List ℕ) (tentative : Bool) (tells 
         lens = s.lens;
         ranges = s.ranges;
         marks_are = s.marks_are;
+        marked = s.marked;
         tentative_is = s.tentative_is;
         due = s.due;
         by_records = s.by_records;
@@ -145,6 +149,10 @@ mergeable_read kept m n x w y z first second found xe we ye ze fe se =
       second = record { within = found.1; number_is = ap (λ (k : Kept). k.number) (sym (get_or_read kept n z found.1 ze no_kept)); parts_are = ap (λ (k : Kept). k.run.parts) (sym (get_or_read kept n y found.1 ye no_kept)) ∙ ap (λ (r : RunValue). r.parts) (sym se) };
       owner = found.2;
     }
+
+-- a run that was copied off the shelf
+pub run_read : (kept : List Kept) (m : ℕ) (x : Kept) (run : RunValue) → m < length kept → x ≡ get_or kept m x → run ≡ x.run → run ≡ (kept_at kept m).run
+run_read kept m x run l xe e = e ∙ ap (λ (k : Kept). k.run) (get_or_read kept m x l xe no_kept)
 
 -- ---- the end
 
@@ -180,6 +188,7 @@ finished_sound rules p marks tentative tells reduce pairs_of j kept s no_restart
   ranges = subst AreLens (sym e.lens) s.ranges;
   restarts = e.restarts ∙ s.restarts;
   marks_are = e.marks ∙ s.marks_are;
+  marked = s.marked;
   tentative_is = e.tentative ∙ s.tentative_is;
   due = inr e.due;
   limit = s.limit;
@@ -189,13 +198,14 @@ finished_sound rules p marks tentative tells reduce pairs_of j kept s no_restart
 }
 
 -- the shelf of the empty history
-pub empty_sound : (rules : Rules) (p : ℕ) (marks : List ℕ) (tentative : Bool) (tells : Bool) (reduce : List ℕ → List Val → List ℕ) (pairs_of : Part → List Pair) (lens restarts : List ℕ) (j : JournalValue) (kept : List Kept) → IsBeginning lens tentative restarts marks j → lens ≡ rules.lens → AreLens lens → restarts ≡ restarts_of rules.script p → rules.attempts ≤ 16 → IsByRecords pairs_of → kept ≡ [] → IsSound rules p marks tentative tells reduce pairs_of j kept
-empty_sound rules p marks tentative tells reduce pairs_of lens restarts j kept b l ranges r limit by none = record {
+pub empty_sound : (rules : Rules) (p : ℕ) (marks : List ℕ) (tentative : Bool) (tells : Bool) (reduce : List ℕ → List Val → List ℕ) (pairs_of : Part → List Pair) (lens restarts : List ℕ) (j : JournalValue) (kept : List Kept) → IsBeginning lens tentative restarts marks j → AreMarks marks → lens ≡ rules.lens → AreLens lens → restarts ≡ restarts_of rules.script p → rules.attempts ≤ 16 → IsByRecords pairs_of → kept ≡ [] → IsSound rules p marks tentative tells reduce pairs_of j kept
+empty_sound rules p marks tentative tells reduce pairs_of lens restarts j kept b marked l ranges r limit by none = record {
   legal = subst (GrowsLegally rules p) (sym b.events) tt;
   lens = b.lens_are ∙ l;
   ranges = subst AreLens (sym b.lens_are) ranges;
   restarts = b.restarts_are ∙ r;
   marks_are = b.marks_are;
+  marked = marked;
   tentative_is = b.tentative_is;
   due = inr (b.due ∙ ap (λ (x : JournalValue). first_reached x.tentative x.lens x.marks x.events) (begun j b));
   limit = limit;

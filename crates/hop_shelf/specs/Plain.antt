@@ -1,5 +1,5 @@
 -- A run of the tests: one split of two records, no marks and no script.
-use Rattle.std.specs.Prelude.{◌≡◌, ℕ, List, [], ◌∷◌, length, slice_index, codes}
+use Rattle.std.specs.Prelude.{◌≡◌, ℕ, List, [], ◌∷◌, slice_index, codes}
 use Rattle.hop_base.specs.Run.{RunSettings, least_settings}
 use Rattle.hop_shelf.specs.Journal.{JournalValue}
 use Rattle.hop_shelf.specs.Finish.{NamesBelow}

@@ -1,5 +1,5 @@
 //! One reducer's state: its history, its coverage and its runs.
-ghost use Rattle.std.specs.Prelude.{◌≡◌, Some, ◌<◌, ◌≤◌, ◌↔◌, ◌++◌, ◌∷◌, [], ℕ, List, length, All, IfOk, OnOk, OnErr, IfErr, IsTrue, vec_len, vec_capacity, true, map, filter, MatchOption, slice_index};
+ghost use Rattle.std.specs.Prelude.{◌≡◌, Some, ◌<◌, ◌≤◌, ◌↔◌, ◌++◌, ◌∷◌, [], ℕ, List, length, All, IfOk, OnOk, OnErr, IfErr, IsTrue, vec_len, vec_capacity, true, false, map, filter, MatchOption, slice_index};
 ghost use Rattle.hop_base.specs.Run.{restarts_of};
 ghost use Rattle.hop_laws.specs.Blocking.{blocking};
 ghost use Rattle.hop_event.specs.History.{upto, winner, is_revoked};
@@ -105,11 +105,11 @@ fn owner_of(journal: &Journal, i: u32, attempt: u8) -> Owner
 impl<N: RunName> Shelf<N> {
     ghost use Rattle.hop_records.specs.Records.{lens_of};
     ghost use Rattle.hop_shelf.specs.Names.{book_of};
-    ghost use Rattle.hop_shelf.specs.Sound.{MayGrow, IsParcel, Arrives, IsSound, Fits, Installs};
+    ghost use Rattle.hop_shelf.specs.Sound.{MayGrow, IsParcel, Arrives, IsSound, Lends, Installs};
     ghost use Rattle.hop_shelf.specs.Journal.{AddsEvent, IsBeginning};
-    ghost use Rattle.hop_shelf.specs.Kept.{committed_by, is_other, OwnersApart};
+    ghost use Rattle.hop_shelf.specs.Kept.{committed_by, is_other, all_parts, OwnersApart};
     ghost use Rattle.hop_shelf.specs.Finish.{IsFirstNotDone, AllDone, NamesBelow};
-    ghost use Rattle.hop_shelf.specs.Cuts.{IsCut};
+    ghost use Rattle.hop_shelf.specs.Cuts.{IsCut, AreDue, AreAllCut};
 
     /// The shelf of the empty history, of the reducer of partition `p`. What it is made from are the
     /// record counts, the marks, the script and the settings of its run.
@@ -277,18 +277,19 @@ impl<N: RunName> Shelf<N> {
     }
 
     /// What holds of every shelf: its history grows legally, its runs stand for their parts where the
-    /// spill folders tell, and the parts of its runs are those of the history. It does nothing: proofs
-    /// learn it so.
+    /// spill folders tell, the parts of its runs are those of the history, and none is of a revoked
+    /// attempt. It does nothing: proofs learn it so.
     pub fn known(&self)
         ensures sound { IsSound (rules_of N.records N.script N.settings) self.now.p N.settings.marks N.settings.tentative N.tells N.job.reduced (pairs_of N.job N.records N.settings self.now.p) self.now.journal self.now.kept }
+        ensures revoked { All (λ q. is_revoked q.split q.attempt self.now.journal.events ≡ false) (all_parts self.now.kept) }
     {
         let _p = self.p;
     }
 
-    /// Copies of two runs that may be merged, both committed or both of one attempt. There are none
-    /// exactly where no two runs are so. It is one pass over the runs.
+    /// Copies of two runs of the shelf that may be merged, both committed or both of one attempt. There
+    /// are none exactly where no two runs are so. It is one pass over the runs.
     pub fn lend(&self) -> Result<Option<MergeWork<N>>, NoMemory>
-        ensures { IfOk result (λ work. MatchOption work (OwnersApart self.now.kept) (λ w. Fits self.now w)) }
+        ensures { IfOk result (λ work. MatchOption work (OwnersApart self.now.kept) (λ w. Lends self.now w)) }
     {
         match pair_of_one_owner(*self.kept.allocator(), &self.kept)? {
             None => Ok(None),
@@ -352,11 +353,13 @@ impl<N: RunName> Shelf<N> {
         Ok(cuts)
     }
 
-    /// The cuts of the marks that the last event, or the empty history, first reached. Afterwards none
-    /// is due. After `NoMemory` they are still due.
+    /// The cuts of the marks that the last event, or the empty history, first reached: while they are due,
+    /// each mark of the run whose cut the history is now. Afterwards none is due. After `NoMemory` they
+    /// are still due.
     pub fn cuts_due(&mut self) -> Result<Cuts, NoMemory>
         ensures marks { IfOk result (λ cuts. map (λ c. c.mark) cuts ≡ self.old.journal.due) }
         ensures cuts { IfOk result (λ cuts. All (IsCut N.tells N.job.reduced (pairs_of N.job N.records N.settings self.old.p) self.old.journal) cuts) }
+        ensures every { IfOk result (λ cuts. AreDue self.old.journal → AreAllCut self.old.journal (map (λ c. c.mark) cuts)) }
         ensures ok { OnOk result (self.new ≡ record self.old { journal = record self.old.journal { due = [] } }) }
         ensures err { OnErr result (self.new ≡ self.old) }
     {

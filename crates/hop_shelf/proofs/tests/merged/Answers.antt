@@ -1,6 +1,6 @@
 use Rattle.std.proofs.Common.{sym, subst}
 use Rattle.hop_jobs.specs.Wc.{wc_meaning}
-use Rattle.hop_run.specs.Runs.{RunValue, RunStands}
+use Rattle.hop_run.specs.Runs.{RunStands}
 use Rattle.hop_laws.proofs.Emitted.{valid_part}
 use Rattle.hop_shelf.specs.Names.{pairs_of}
 use Rattle.hop_shelf.specs.Plain.{two_records, one_split}

@@ -1,4 +1,4 @@
-use Rattle.std.proofs.Common.{◌≡◌, sym, subst, ap, ◌∙◌, List, Option, ℕ, map, filter, true}
+use Rattle.std.proofs.Common.{◌≡◌, sym, subst, ap, ◌∙◌, List, Option, ℕ, map, filter}
 use Rattle.std.specs.List.{flat_map}
 use Rattle.hop_base.specs.Meaning.{Meaning}
 use Rattle.hop_base.specs.Ranges.{AreLens}
