@@ -1,3 +1,4 @@
+pub mod AcceptLaws
 pub mod DueLaws
 pub mod HeadLaws
 pub mod LineLaws

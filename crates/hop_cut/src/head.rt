@@ -1,6 +1,6 @@
 //! The head of a snapshot, and its reader.
-ghost use Rattle.std.specs.Prelude.{◌≡◌, ◌<◌, ℕ, List, IfOk, Option, MatchResult, MatchOption};
-ghost use Rattle.hop_cut.specs.Snapshot.{IsHead, IsFirstNotDue, declared_part};
+ghost use Rattle.std.specs.Prelude.{◌≡◌, ◌<◌, ◌++◌, ℕ, List, IfOk, Option, MatchResult, MatchOption};
+ghost use Rattle.hop_cut.specs.Snapshot.{Header, IsHeader, header_lines, text_of, IsHead, IsFirstNotDue, declared_part};
 ghost use Rattle.hop_cut.specs.Lines.{IsSplitText};
 ghost use Rattle.hop_cut.specs.declared.head.SplitLine.{SplitLine};
 ghost use Rattle.hop_cut.specs.Parts.{IsFirstPart, IsSplitsPart, SplitsStop};
@@ -70,6 +70,9 @@ struct Splits<'a> {
 pub fn cut_read(alloc: Global, bytes: &[u8]) -> Result<SnapHead, SnapFault>
     ensures found { IfOk result (IsHead bytes.now) }
     ensures refused { (line : ℕ) → result ≡ Err (SnapFault.NotASnapshot line) → IsFirstNotDue bytes.now line }
+
+    // A text that begins with a header is read.
+    ensures accepted { (header : Header) (body : List ℕ) → IsHeader header → bytes.now ≡ text_of (header_lines header) ++ body → (line : ℕ) → result ≡ Err (SnapFault.NotASnapshot line) → ⊥ }
 {
     let first = match first_lines(bytes) {
         Ok(first) => first,

@@ -1,5 +1,5 @@
 -- Which event may come after which. The last event stands first.
-use Rattle.std.specs.Prelude.{◌≡◌, ℕ, ◌+◌, ◌%◌, ◌<◌, ◌≤◌, ◌⊎◌, Bool, true, false, ◌==◌, Option, Some, None, List, [], ◌∷◌, length, slice_index, IfSome}
+use Rattle.std.specs.Prelude.{◌≡◌, ℕ, ◌+◌, ◌%◌, ◌<◌, ◌≤◌, ◌⊎◌, Bool, true, false, ◌==◌, Option, Some, None, List, [], ◌∷◌, length, slice_index, All, IfSome}
 use Rattle.std.specs.List.{list_any}
 use Rattle.hop_base.specs.Run.{ScriptLines, fails_at, restarts_of}
 use Rattle.hop_base.specs.declared.part.Part.{Part}
@@ -44,10 +44,9 @@ is_finish (Won j b) = false
 is_finish (Revoked j b) = false
 is_finish Restart = false
 
--- whether the last event is the finish
-abbrev pub is_finished : List Event → Bool
-is_finished [] = false
-is_finished (e ∷ earlier) = is_finish e
+-- no event is the finish
+abbrev pub NoFinish : List Event → Type 0
+NoFinish h = All (λ e. is_finish e ≡ false) h
 
 -- the attempt is one of the split's, of which there are so many
 pub record IsAttempt (lens : List ℕ) (begun : ℕ → ℕ) (i a : ℕ) : Type 0 where
@@ -114,20 +113,19 @@ pub record MayFinish (lens : List ℕ) (begun : ℕ → ℕ) (h : List Event) : 
   pub won : AllWon lens h
   pub settled : (i : ℕ) → i < length lens → AllSettled h i (begun i)
 
--- After these events this one may come, but for the places of restarts and of the finish.
+-- After these events this one may come, but for the places of restarts. What a finish needs belongs
+-- to the whole history.
 abbrev pub MayCome : Rules → (ℕ → ℕ) → List Event → Event → Type 0
 MayCome rules begun h (Arrive part via) = IsRange rules begun part × IsWorker rules via × GoesOn h part
 MayCome rules begun h (Ignore part via have) = IsRange rules begun part × IsWorker rules via × CameByLane via × (GoesOn h part → ⊥) × (have ≡ upto part.split part.attempt h)
 MayCome rules begun h (Won i a) = MayWin rules begun h i a
 MayCome rules begun h (Revoked i a) = MayBeRevoked rules begun h i a
 MayCome rules begun h Restart = Unit {0}
-MayCome rules begun h Finish = AllWon rules.lens h
+MayCome rules begun h Finish = Unit {0}
 
--- After these events of reducer p this one may come: a restart comes exactly where one is due, and
--- nothing after the finish.
+-- After these events of reducer p this one may come, and a restart comes exactly where one is due.
 pub record Follows (rules : Rules) (p : ℕ) (begun : ℕ → ℕ) (h : List Event) (e : Event) : Type 0 where
   pub restarts : is_restart e ≡ restart_due (restarts_of rules.script p) h
-  pub open_before : is_finished h ≡ false
   pub rule : MayCome rules begun h e
 
 -- each event of reducer p meets its rule by the events before it, with so many attempts of each split
@@ -135,12 +133,13 @@ abbrev pub IsLegal : Rules → ℕ → (ℕ → ℕ) → List Event → Type 0
 IsLegal rules p begun [] = Unit {0}
 IsLegal rules p begun (e ∷ earlier) = Follows rules p begun earlier e × IsLegal rules p begun earlier
 
--- A history that may still grow: it is not said which attempts were begun, and the restart that is
--- due after its last event may be missing.
+-- A history that grows legally, or has grown so to its end: it is not said which attempts were begun,
+-- and the restart that is due after its last event may be missing.
 abbrev pub GrowsLegally : Rules → ℕ → List Event → Type 0
 GrowsLegally rules p h = IsLegal rules p (λ i. rules.attempts) h
 
--- a whole history, where so many attempts of each split were begun
+-- A whole history, where so many attempts of each split were begun: it ends with its one finish, before
+-- which all is there and no attempt that was begun is open.
 abbrev pub IsFinished : Rules → ℕ → List ℕ → List Event → Type 0
 IsFinished rules p begun [] = ⊥
-IsFinished rules p begun (e ∷ earlier) = IsLegal rules p (slice_index begun) (e ∷ earlier) × (is_finish e ≡ true) × MayFinish rules.lens (slice_index begun) earlier
+IsFinished rules p begun (e ∷ earlier) = IsLegal rules p (slice_index begun) (e ∷ earlier) × (is_finish e ≡ true) × NoFinish earlier × MayFinish rules.lens (slice_index begun) earlier

@@ -39,10 +39,9 @@ use Rattle.std.proofs.lemmas.List.Elements.{All-map, All-filter, filter_agree}
 use Rattle.std.proofs.lemmas.List.FromFn.{get_or-map-range_with_len, length-map-range_with_len}
 use Rattle.hop_shelf.specs.Journal.{JournalValue}
 use Rattle.hop_shelf.specs.Sound.{IsSound}
-use Rattle.hop_shelf.proofs.ShelfLaws.{finished_won}
 use Rattle.hop_shelf.specs.Covered.{covers_in}
 use Rattle.hop_shelf.specs.Finish.{whole_parts}
-use Rattle.hop_event.specs.Legal.{AllWon, is_finished}
+use Rattle.hop_event.specs.Legal.{AllWon}
 use Rattle.hop_laws.specs.Groups.{red}
 use Rattle.hop_laws.proofs.Values.{each_permuted}
 use Rattle.hop_laws.proofs.StandsLaws.{red_stands}
@@ -267,11 +266,10 @@ module _ (rules : Rules) (p : ℕ) (marks : List ℕ) (wanted : Bool) (tells : B
   sound_cut declarations runs d r t =
       subst (λ parts. StandTogether reduce runs (flat_map pairs_of parts)) (sym (ap covered_parts d ∙ covered_same j.tentative j.lens j.events)) (sound_together declarations runs d r t)
 
-  -- the reduction of a finished history's runs is that of all records
-  pub sound_reduced : is_finished j.events ≡ true → (declarations : List (Option Declared)) (pairs sheet : List Pair) → declarations ≡ map (declared j.tentative j.events) (range_with_len 0 (length j.lens)) → pairs ≡ flat_map (λ (r : RunValue). r.sheet) (map (λ (k : Kept). k.run) (filter (λ (k : Kept). covers_in declarations k.owner) kept)) → IsPermutation pairs sheet → IsTrue tells → red reduce sheet ≡ red reduce (flat_map pairs_of (whole_parts j.lens))
-  sound_reduced finished declarations pairs sheet d e perm t =
+  -- where all splits are won whole, the reduction of the covered runs is that of all records
+  pub sound_reduced : AllWon j.lens j.events → (declarations : List (Option Declared)) (pairs sheet : List Pair) → declarations ≡ map (declared j.tentative j.events) (range_with_len 0 (length j.lens)) → pairs ≡ flat_map (λ (r : RunValue). r.sheet) (map (λ (k : Kept). k.run) (filter (λ (k : Kept). covers_in declarations k.owner) kept)) → IsPermutation pairs sheet → IsTrue tells → red reduce sheet ≡ red reduce (flat_map pairs_of (whole_parts j.lens))
+  sound_reduced won declarations pairs sheet d e perm t =
       let runs : List RunValue = map (λ (k : Kept). k.run) (filter (λ (k : Kept). covers_in declarations k.owner) kept) in
-      let won = subst (λ l. AllWon l j.events) (sym s.lens) (finished_won rules p j.events s.legal finished) in
       sym (each_permuted reduce pairs sheet perm) ∙ ap (red reduce) e
       ∙ red_stands reduce (flat_map (λ (r : RunValue). r.sheet) runs) (flat_map pairs_of (covered_by j.tentative j.lens j.events)) (sound_together declarations runs d refl t)
       ∙ ap (red reduce) (whole_pairs pairs_of s.by_records j.tentative j.lens j.events (λ i l. (won i l, (s.ranges.each i 0 l).some)))

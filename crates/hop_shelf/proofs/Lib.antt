@@ -1,11 +1,12 @@
 pub mod Chains
 pub mod CutLaws
 pub mod JournalLaws
+pub mod KnownLaws
+pub mod MarkLaws
 pub mod OwnerLaws
 pub mod Places
-pub mod PlainLaws
-pub mod PlainRun
 pub mod RecordLaws
+pub mod SampleLaws
 pub mod ShelfLaws
 pub mod SoundLaws
 pub mod Together

@@ -13,11 +13,10 @@ use Rattle.hop_cut.proofs.TextLaws.{emitted_parts}
 use Rattle.hop_shelf.specs.Finish.{whole_split, whole_parts}
 use Rattle.hop_base.specs.Meaning.{Meaning}
 use Rattle.hop_base.specs.Run.{RunSettings}
-use Rattle.hop_base.specs.declared.part.Part.{Part}
-use Rattle.hop_laws.specs.Blocking.{emitted, part_records, part_pairs}
+use Rattle.hop_laws.specs.Blocking.{emitted, part_records}
 use Rattle.hop_laws.proofs.Emitted.{emitted-append, valid_part}
 use Rattle.hop_shelf.specs.Names.{IsRun, pairs_of, book_of}
-use Rattle.hop_shelf.specs.Covered.{IsOfRanges, IsByRecords}
+use Rattle.hop_shelf.specs.Covered.{IsByRecords}
 
 records_joined : (records : List (List ℕ)) (s i a n m t : ℕ) → n ≤ m → m ≤ t → part_records records s (record { split = i; attempt = a; from = n; to = t }) ≡ part_records records s (record { split = i; attempt = a; from = n; to = m }) ++ part_records records s (record { split = i; attempt = a; from = m; to = t })
 records_joined records s i a n m t h k =

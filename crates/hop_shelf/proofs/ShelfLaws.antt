@@ -1,7 +1,6 @@
 -- What each call leaves of a sound shelf.
-use Rattle.std.proofs.Common.{◌≡◌, ◌≢◌, ℕ, ◌<◌, ◌≤◌, inl, inr, Bool, true, false, cond, if◌then◌else◌, Option, Some, None, List, [], ◌∷◌, ◌++◌, length, map, filter, set, get_or, slice_index, refl, sym, ap, ◌∙◌, subst, arith, eqb, ◌==◌}
+use Rattle.std.proofs.Common.{◌≡◌, ◌≢◌, ℕ, ◌<◌, ◌≤◌, inr, Bool, true, false, cond, if◌then◌else◌, Option, Some, None, List, [], ◌∷◌, ◌++◌, length, map, filter, set, get_or, slice_index, refl, sym, ap, ◌∙◌, subst, arith, eqb, ◌==◌}
 use Rattle.std.specs.Prelude.{All, IsTrue}
-use Rattle.std.proofs.lemmas.Bool.{false≢true}
 use Rattle.std.proofs.lemmas.Bool.Decides.{nat_tests}
 use Rattle.std.proofs.lemmas.List.{get_or_read}
 use Rattle.std.proofs.lemmas.List.Elements.{All-set, All-push, All-weaker, All-map, All-filter, recursion_from_All}
@@ -15,9 +14,9 @@ use Rattle.hop_event.specs.declared.event.Event.TheVariants.{Arrive, Ignore, Won
 use Rattle.hop_event.specs.declared.event.Via.{Via}
 use Rattle.hop_event.specs.declared.event.Via.TheVariants.{Lane, Late, Pull}
 use Rattle.hop_event.specs.History.{upto, winner, is_revoked}
-use Rattle.hop_base.specs.Ranges.{AreLens}
+use Rattle.hop_base.specs.Ranges.{AreLens, AreMarks}
 use Rattle.hop_base.specs.Run.{restarts_of}
-use Rattle.hop_event.specs.Legal.{is_finished, IsLegal, IsFinished, IsAttempt, MayCome, Rules, GrowsLegally, IsRange, IsWorker, CameByLane, GoesOn, MayWin, MayBeRevoked, no_other, restart_due, AllWon}
+use Rattle.hop_event.specs.Legal.{NoFinish, IsLegal, IsFinished, IsAttempt, MayCome, Rules, GrowsLegally, IsRange, IsWorker, CameByLane, GoesOn, MayWin, MayBeRevoked, no_other, restart_due, IsWon, AllSettled, AllWon}
 use Rattle.hop_shelf.specs.Finish.{AllDone, IsBelow, NamesBelow}
 use Rattle.hop_shelf.specs.declared.kept.Kept.{Kept}
 use Rattle.hop_shelf.specs.declared.kept.Owner.{Owner}
@@ -50,7 +49,7 @@ stands_committed : (reduce : List ℕ → List Val → List ℕ) (pairs_of : Par
 stands_committed reduce pairs_of k true w = w
 stands_committed reduce pairs_of k false w = w
 
-module _ (rules : Rules) (p : ℕ) (marks : List ℕ) (tentative : Bool) (tells : Bool) (reduce : List ℕ → List Val → List ℕ) (pairs_of : Part → List Pair) (j : JournalValue) (kept : List Kept) (s : IsSound rules p marks tentative tells reduce pairs_of j kept) (no_restart : restart_due j.restarts j.events ≡ false) (unfinished : is_finished j.events ≡ false) where
+module _ (rules : Rules) (p : ℕ) (marks : List ℕ) (tentative : Bool) (tells : Bool) (reduce : List ℕ → List Val → List ℕ) (pairs_of : Part → List Pair) (j : JournalValue) (kept : List Kept) (s : IsSound rules p marks tentative tells reduce pairs_of j kept) (no_restart : restart_due j.restarts j.events ≡ false) where
   none_due : false ≡ restart_due (restarts_of rules.script p) j.events
   none_due = sym no_restart ∙ ap (λ r. restart_due r j.events) s.restarts
 
@@ -59,10 +58,11 @@ module _ (rules : Rules) (p : ℕ) (marks : List ℕ) (tentative : Bool) (tells 
       let k : Kept = record { number = number; owner = owner; run = run } in
       let owned = owned_by_winner j.events part.split part.attempt run.parts (winner part.split j.events) refl goes.alone goes.alive parcel.own in
       subst (IsSound rules p marks tentative tells reduce pairs_of new) (sym e) (record {
-        legal = subst (GrowsLegally rules p) (sym a.events) (record { restarts = none_due; open_before = unfinished; rule = (range, worker, goes) }, s.legal);
+        legal = subst (GrowsLegally rules p) (sym a.events) (record { restarts = none_due; rule = (range, worker, goes) }, s.legal);
         lens = a.lens ∙ s.lens;
         ranges = subst AreLens (sym a.lens) s.ranges;
         marks_are = a.marks ∙ s.marks_are;
+        marked = s.marked;
         tentative_is = a.tentative ∙ s.tentative_is;
         due = inr a.due;
         by_records = s.by_records;
@@ -74,10 +74,11 @@ module _ (rules : Rules) (p : ℕ) (marks : List ℕ) (tentative : Bool) (tells 
 
   pub ignored_sound : (part : Part) (via : Via) (have : ℕ) (new : JournalValue) → AddsEvent j (Ignore part via have) new → IsRange rules (λ i. rules.attempts) part → IsWorker rules via → (GoesOn j.events part → ⊥) → (via ≡ Pull → GoesOn j.events part) → have ≡ upto part.split part.attempt j.events → IsSound rules p marks tentative tells reduce pairs_of new kept
   ignored_sound part via have new a range worker stays pulled h = record {
-    legal = subst (GrowsLegally rules p) (sym a.events) (record { restarts = none_due; open_before = unfinished; rule = (range, worker, by_lane j.events part via pulled stays, stays, h) }, s.legal);
+    legal = subst (GrowsLegally rules p) (sym a.events) (record { restarts = none_due; rule = (range, worker, by_lane j.events part via pulled stays, stays, h) }, s.legal);
     lens = a.lens ∙ s.lens;
     ranges = subst AreLens (sym a.lens) s.ranges;
     marks_are = a.marks ∙ s.marks_are;
+    marked = s.marked;
     tentative_is = a.tentative ∙ s.tentative_is;
     due = inr a.due;
     by_records = s.by_records;
@@ -89,10 +90,11 @@ module _ (rules : Rules) (p : ℕ) (marks : List ℕ) (tentative : Bool) (tells 
 
   pub won_sound : (i a : ℕ) (new : JournalValue) → AddsEvent j (Won i a) new → MayWin rules (λ i. rules.attempts) j.events i a → IsSound rules p marks tentative tells reduce pairs_of new (map (committed_by i a) kept)
   won_sound i a new e may = record {
-    legal = subst (GrowsLegally rules p) (sym e.events) (record { restarts = none_due; open_before = unfinished; rule = may }, s.legal);
+    legal = subst (GrowsLegally rules p) (sym e.events) (record { restarts = none_due; rule = may }, s.legal);
     lens = e.lens ∙ s.lens;
     ranges = subst AreLens (sym e.lens) s.ranges;
     marks_are = e.marks ∙ s.marks_are;
+    marked = s.marked;
     tentative_is = e.tentative ∙ s.tentative_is;
     due = inr e.due;
     by_records = s.by_records;
@@ -104,10 +106,11 @@ module _ (rules : Rules) (p : ℕ) (marks : List ℕ) (tentative : Bool) (tells 
 
   pub revoked_sound : (i a : ℕ) (new : JournalValue) → AddsEvent j (Revoked i a) new → MayBeRevoked rules (λ i. rules.attempts) j.events i a → IsSound rules p marks tentative tells reduce pairs_of new (filter (is_other i a) kept)
   revoked_sound i a new e may = record {
-    legal = subst (GrowsLegally rules p) (sym e.events) (record { restarts = none_due; open_before = unfinished; rule = may }, s.legal);
+    legal = subst (GrowsLegally rules p) (sym e.events) (record { restarts = none_due; rule = may }, s.legal);
     lens = e.lens ∙ s.lens;
     ranges = subst AreLens (sym e.lens) s.ranges;
     marks_are = e.marks ∙ s.marks_are;
+    marked = s.marked;
     tentative_is = e.tentative ∙ s.tentative_is;
     due = inr e.due;
     by_records = s.by_records;
@@ -127,6 +130,7 @@ module _ (rules : Rules) (p : ℕ) (marks : List ℕ) (tentative : Bool) (tells 
         lens = s.lens;
         ranges = s.ranges;
         marks_are = s.marks_are;
+        marked = s.marked;
         tentative_is = s.tentative_is;
         due = s.due;
         by_records = s.by_records;
@@ -145,6 +149,10 @@ mergeable_read kept m n x w y z first second found xe we ye ze fe se =
       second = record { within = found.1; number_is = ap (λ (k : Kept). k.number) (sym (get_or_read kept n z found.1 ze no_kept)); parts_are = ap (λ (k : Kept). k.run.parts) (sym (get_or_read kept n y found.1 ye no_kept)) ∙ ap (λ (r : RunValue). r.parts) (sym se) };
       owner = found.2;
     }
+
+-- a run that was copied off the shelf
+pub run_read : (kept : List Kept) (m : ℕ) (x : Kept) (run : RunValue) → m < length kept → x ≡ get_or kept m x → run ≡ x.run → run ≡ (kept_at kept m).run
+run_read kept m x run l xe e = e ∙ ap (λ (k : Kept). k.run) (get_or_read kept m x l xe no_kept)
 
 -- ---- the end
 
@@ -173,13 +181,14 @@ finished_fit h kept r = record {
   consecutive = r.consecutive;
 }
 
-pub finished_sound : (rules : Rules) (p : ℕ) (marks : List ℕ) (tentative : Bool) (tells : Bool) (reduce : List ℕ → List Val → List ℕ) (pairs_of : Part → List Pair) (j : JournalValue) (kept : List Kept) → IsSound rules p marks tentative tells reduce pairs_of j kept → restart_due j.restarts j.events ≡ false → is_finished j.events ≡ false → (new : JournalValue) (begun : List ℕ) → AddsEvent j Finish new → AllDone j begun → IsSound rules p marks tentative tells reduce pairs_of new kept
-finished_sound rules p marks tentative tells reduce pairs_of j kept s no_restart unfinished new begun e done = record {
-  legal = subst (GrowsLegally rules p) (sym e.events) (record { restarts = sym no_restart ∙ ap (λ r. restart_due r j.events) s.restarts; open_before = unfinished; rule = subst (λ l. AllWon l j.events) s.lens (λ i l. (done i l).won) }, s.legal);
+pub finished_sound : (rules : Rules) (p : ℕ) (marks : List ℕ) (tentative : Bool) (tells : Bool) (reduce : List ℕ → List Val → List ℕ) (pairs_of : Part → List Pair) (j : JournalValue) (kept : List Kept) → IsSound rules p marks tentative tells reduce pairs_of j kept → restart_due j.restarts j.events ≡ false → (new : JournalValue) → AddsEvent j Finish new → IsSound rules p marks tentative tells reduce pairs_of new kept
+finished_sound rules p marks tentative tells reduce pairs_of j kept s no_restart new e = record {
+  legal = subst (GrowsLegally rules p) (sym e.events) (record { restarts = sym no_restart ∙ ap (λ r. restart_due r j.events) s.restarts; rule = tt }, s.legal);
   lens = e.lens ∙ s.lens;
   ranges = subst AreLens (sym e.lens) s.ranges;
   restarts = e.restarts ∙ s.restarts;
   marks_are = e.marks ∙ s.marks_are;
+  marked = s.marked;
   tentative_is = e.tentative ∙ s.tentative_is;
   due = inr e.due;
   limit = s.limit;
@@ -189,13 +198,14 @@ finished_sound rules p marks tentative tells reduce pairs_of j kept s no_restart
 }
 
 -- the shelf of the empty history
-pub empty_sound : (rules : Rules) (p : ℕ) (marks : List ℕ) (tentative : Bool) (tells : Bool) (reduce : List ℕ → List Val → List ℕ) (pairs_of : Part → List Pair) (lens restarts : List ℕ) (j : JournalValue) (kept : List Kept) → IsBeginning lens tentative restarts marks j → lens ≡ rules.lens → AreLens lens → restarts ≡ restarts_of rules.script p → rules.attempts ≤ 16 → IsByRecords pairs_of → kept ≡ [] → IsSound rules p marks tentative tells reduce pairs_of j kept
-empty_sound rules p marks tentative tells reduce pairs_of lens restarts j kept b l ranges r limit by none = record {
+pub empty_sound : (rules : Rules) (p : ℕ) (marks : List ℕ) (tentative : Bool) (tells : Bool) (reduce : List ℕ → List Val → List ℕ) (pairs_of : Part → List Pair) (lens restarts : List ℕ) (j : JournalValue) (kept : List Kept) → IsBeginning lens tentative restarts marks j → AreMarks marks → lens ≡ rules.lens → AreLens lens → restarts ≡ restarts_of rules.script p → rules.attempts ≤ 16 → IsByRecords pairs_of → kept ≡ [] → IsSound rules p marks tentative tells reduce pairs_of j kept
+empty_sound rules p marks tentative tells reduce pairs_of lens restarts j kept b marked l ranges r limit by none = record {
   legal = subst (GrowsLegally rules p) (sym b.events) tt;
   lens = b.lens_are ∙ l;
   ranges = subst AreLens (sym b.lens_are) ranges;
   restarts = b.restarts_are ∙ r;
   marks_are = b.marks_are;
+  marked = marked;
   tentative_is = b.tentative_is;
   due = inr (b.due ∙ ap (λ (x : JournalValue). first_reached x.tentative x.lens x.marks x.events) (begun j b));
   limit = limit;
@@ -212,16 +222,6 @@ empty_sound rules p marks tentative tells reduce pairs_of lens restarts j kept b
         ∙ ap (λ (r : List ℕ). record j { restarts = r; marks = marks }) (sym b.restarts_are)
         ∙ ap (λ (m : List ℕ). record j { marks = m }) (sym b.marks_are)
 
--- where a history is finished, each winner is there with all its records
-pub finished_won : (rules : Rules) (p : ℕ) (h : List Event) → GrowsLegally rules p h → is_finished h ≡ true → AllWon rules.lens h
-finished_won rules p [] legal e = absurd (false≢true e)
-finished_won rules p (Finish ∷ h) legal e = legal.0.rule
-finished_won rules p (Arrive part via ∷ h) legal e = absurd (false≢true e)
-finished_won rules p (Ignore part via have ∷ h) legal e = absurd (false≢true e)
-finished_won rules p (Won i a ∷ h) legal e = absurd (false≢true e)
-finished_won rules p (Revoked i a ∷ h) legal e = absurd (false≢true e)
-finished_won rules p (Restart ∷ h) legal e = absurd (false≢true e)
-
 below_attempt : (lens : List ℕ) (limit begun : ℕ → ℕ) (i a : ℕ) → IsAttempt lens limit i a → a < begun i → IsAttempt lens begun i a
 below_attempt lens limit begun i a h b = record { split = h.split; attempt = b }
 
@@ -234,19 +234,29 @@ below_come rules limit begun h (Ignore part via have) m b = (below_range rules l
 below_come rules limit begun h (Won i a) m b = record { attempt = below_attempt rules.lens limit begun i a m.attempt b; no_winner = m.no_winner; alive = m.alive; succeeds = m.succeeds }
 below_come rules limit begun h (Revoked i a) m b = record { attempt = below_attempt rules.lens limit begun i a m.attempt b; loses = m.loses; alive = m.alive }
 below_come rules limit begun h Restart m b = tt
-below_come rules limit begun h Finish m b = m
+below_come rules limit begun h Finish m b = tt
 
 -- a legal history that names only begun attempts is legal with these numbers
 pub below_legal : (rules : Rules) (p : ℕ) (limit begun : ℕ → ℕ) (h : List Event) → IsLegal rules p limit h → NamesBelow begun h → IsLegal rules p begun h
 below_legal rules p limit begun [] l n = tt
-below_legal rules p limit begun (e ∷ h) l n = (record { restarts = l.0.restarts; open_before = l.0.open_before; rule = below_come rules limit begun h e l.0.rule n.0 }, below_legal rules p limit begun h l.1 n.1)
+below_legal rules p limit begun (e ∷ h) l n = (record { restarts = l.0.restarts; rule = below_come rules limit begun h e l.0.rule n.0 }, below_legal rules p limit begun h l.1 n.1)
 
--- the history of a sound shelf, with the finish
-pub finished_whole : (rules : Rules) (p : ℕ) (marks : List ℕ) (tentative : Bool) (tells : Bool) (reduce : List ℕ → List Val → List ℕ) (pairs_of : Part → List Pair) (j : JournalValue) (kept : List Kept) → IsSound rules p marks tentative tells reduce pairs_of j kept → restart_due j.restarts j.events ≡ false → is_finished j.events ≡ false → (new : JournalValue) (begun : List ℕ) → AddsEvent j Finish new → AllDone j begun → NamesBelow (slice_index begun) j.events → IsFinished rules p begun new.events
-finished_whole rules p marks tentative tells reduce pairs_of j kept s no_restart unfinished new begun e done named =
+-- a finish changes nothing of what is done
+pub done_finished : (j new : JournalValue) (begun : List ℕ) → AddsEvent j Finish new → AllDone j begun → AllDone new begun
+done_finished j new begun e done i l =
+    let d = done i (omega (arith, l, ap length e.lens)) in
+    record {
+      won = subst (λ ls. IsWon ls new.events i) (sym e.lens) (subst (λ h. IsWon j.lens h i) (sym e.events) d.won);
+      settled = subst (λ h. AllSettled h i (slice_index begun i)) (sym e.events) d.settled;
+    }
+
+-- the history of a sound shelf, with the finish, where none stood before
+pub finished_whole : (rules : Rules) (p : ℕ) (marks : List ℕ) (tentative : Bool) (tells : Bool) (reduce : List ℕ → List Val → List ℕ) (pairs_of : Part → List Pair) (j : JournalValue) (kept : List Kept) → IsSound rules p marks tentative tells reduce pairs_of j kept → restart_due j.restarts j.events ≡ false → (new : JournalValue) (begun : List ℕ) → AddsEvent j Finish new → AllDone j begun → NamesBelow (slice_index begun) j.events → NoFinish j.events → IsFinished rules p begun new.events
+finished_whole rules p marks tentative tells reduce pairs_of j kept s no_restart new begun e done named first =
     let won : AllWon rules.lens j.events = subst (λ l. AllWon l j.events) s.lens (λ i l. (done i l).won) in
     subst (IsFinished rules p begun) (sym e.events) (
-      (record { restarts = sym no_restart ∙ ap (λ r. restart_due r j.events) s.restarts; open_before = unfinished; rule = won }, below_legal rules p (λ i. rules.attempts) (slice_index begun) j.events s.legal named),
+      (record { restarts = sym no_restart ∙ ap (λ r. restart_due r j.events) s.restarts; rule = tt }, below_legal rules p (λ i. rules.attempts) (slice_index begun) j.events s.legal named),
       refl,
+      first,
       record { won = won; settled = λ i l. (done i (rw s.lens l)).settled },
     )

@@ -4,7 +4,7 @@ use Rattle.hop_base.specs.declared.value.Val.{Val}
 use Rattle.hop_base.specs.declared.value.Pair.{Pair}
 use Rattle.hop_base.specs.declared.part.Part.{Part}
 use Rattle.hop_run.specs.Runs.{RunValue}
-use Rattle.hop_base.specs.Ranges.{AreLens}
+use Rattle.hop_base.specs.Ranges.{AreLens, AreMarks}
 use Rattle.hop_base.specs.Run.{restarts_of}
 use Rattle.hop_shelf.specs.Covered.{IsByRecords}
 use Rattle.hop_shelf.specs.Holds.{RunHolds}
@@ -13,7 +13,7 @@ use Rattle.hop_event.specs.History.{upto, winner, is_revoked}
 use Rattle.hop_event.specs.declared.event.Event.TheVariants.{Arrive, Ignore}
 use Rattle.hop_event.specs.declared.event.Via.{Via}
 use Rattle.hop_event.specs.Coverage.{first_reached}
-use Rattle.hop_event.specs.Legal.{Rules, GrowsLegally, GoesOn, restart_due, is_finished}
+use Rattle.hop_event.specs.Legal.{Rules, GrowsLegally, GoesOn, restart_due}
 use Rattle.hop_shelf.specs.Journal.{JournalValue, AddsEvent}
 use Rattle.hop_shelf.specs.declared.shelf.Arrived.{Arrived}
 use Rattle.hop_shelf.specs.declared.shelf.Arrived.TheVariants.{Taken, Ignored}
@@ -22,7 +22,7 @@ use Rattle.hop_shelf.specs.declared.shelf.Installed.TheVariants.{Installed, Stal
 use Rattle.hop_shelf.specs.declared.kept.Kept.{Kept}
 use Rattle.hop_shelf.specs.declared.kept.Owner.{Owner}
 use Rattle.hop_shelf.specs.declared.kept.Owner.TheVariants.{Committed, Attempt}
-use Rattle.hop_shelf.specs.Kept.{all_parts, AreMergeable, joined_at}
+use Rattle.hop_shelf.specs.Kept.{all_parts, kept_at, AreMergeable, joined_at}
 use Rattle.hop_shelf.specs.Work.{WorkValue, MergedValue}
 use Rattle.hop_shelf.specs.Parts.{parts_of, IsChain}
 
@@ -53,6 +53,7 @@ pub record IsSound (rules : Rules) (p : ℕ) (marks : List ℕ) (tentative : Boo
   pub ranges : AreLens j.lens
   pub restarts : j.restarts ≡ restarts_of rules.script p
   pub marks_are : j.marks ≡ marks
+  pub marked : AreMarks marks
   pub tentative_is : j.tentative ≡ tentative
   pub due : (j.due ≡ []) ⊎ (j.due ≡ first_reached j.tentative j.lens j.marks j.events)
   pub limit : rules.attempts ≤ 16
@@ -67,13 +68,12 @@ pub record ShelfValue : Type 0 where
   pub kept : List Kept
   pub room : ℕ
 
--- there is room for one event, neither a cut nor a restart is due, and the history isn't finished
+-- there is room for one event, and neither a cut nor a restart is due
 pub record MayGrow (s : ShelfValue) : Type 0 where
   pub spare : 1 ≤ s.journal.spare
   pub room : 1 ≤ s.room
   pub no_cut : s.journal.due ≡ []
   pub no_restart : restart_due s.journal.restarts s.journal.events ≡ false
-  pub unfinished : is_finished s.journal.events ≡ false
 
 abbrev pub owner_by : Option ℕ → ℕ → ℕ → Owner
 owner_by None i a = Attempt i a
@@ -94,6 +94,10 @@ Arrives old part via run Taken new = GoesOn old.journal.events part × AddsEvent
     × (new.kept ≡ old.kept ++ record { number = length old.journal.events; owner = owner_of part.split part.attempt old.journal.events; run = run } ∷ []) × (new.p ≡ old.p)
 Arrives old part via run (Ignored have) new = (GoesOn old.journal.events part → ⊥) × (have ≡ upto part.split part.attempt old.journal.events) × AddsEvent old.journal (Ignore part via have) new.journal
     × (new.kept ≡ old.kept) × (new.p ≡ old.p)
+
+-- the lent runs are two of the shelf's, with their numbers there, and may be merged
+abbrev pub Lends : ShelfValue → WorkValue → Type 0
+Lends s w = (w.p ≡ s.p) × ((m : ℕ) × ((n : ℕ) × AreMergeable s.kept m n w.a w.first.parts w.b w.second.parts × (w.first ≡ (kept_at s.kept m).run) × (w.second ≡ (kept_at s.kept n).run)))
 
 -- the lent runs stand on the shelf with the parts that they were lent with, and may be merged
 abbrev pub Fits : ShelfValue → WorkValue → Type 0

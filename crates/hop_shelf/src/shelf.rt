@@ -1,9 +1,9 @@
 //! One reducer's state: its history, its coverage and its runs.
-ghost use Rattle.std.specs.Prelude.{◌≡◌, Some, ◌<◌, ◌≤◌, ◌↔◌, ◌++◌, ◌∷◌, [], ℕ, List, length, All, IfOk, OnOk, OnErr, IfErr, IsTrue, vec_len, vec_capacity, true, map, filter, MatchOption, slice_index};
+ghost use Rattle.std.specs.Prelude.{◌≡◌, Some, ◌<◌, ◌≤◌, ◌↔◌, ◌++◌, ◌∷◌, [], ℕ, List, length, All, IfOk, OnOk, OnErr, IfErr, IsTrue, vec_len, vec_capacity, true, false, map, filter, MatchOption, slice_index};
 ghost use Rattle.hop_base.specs.Run.{restarts_of};
 ghost use Rattle.hop_laws.specs.Blocking.{blocking};
 ghost use Rattle.hop_event.specs.History.{upto, winner, is_revoked};
-ghost use Rattle.hop_event.specs.Legal.{GoesOn, IsRange, IsWorker, MayWin, MayBeRevoked, restart_due, is_finished, IsFinished};
+ghost use Rattle.hop_event.specs.Legal.{GoesOn, IsRange, IsWorker, MayWin, MayBeRevoked, restart_due, AllWon, NoFinish, IsFinished};
 ghost use Rattle.hop_event.specs.Coverage.{cut_at};
 ghost use Rattle.hop_shelf.specs.Holds.{RunHolds};
 ghost use Rattle.hop_shelf.specs.Names.{rules_of, pairs_of, IsRun};
@@ -105,11 +105,11 @@ fn owner_of(journal: &Journal, i: u32, attempt: u8) -> Owner
 impl<N: RunName> Shelf<N> {
     ghost use Rattle.hop_records.specs.Records.{lens_of};
     ghost use Rattle.hop_shelf.specs.Names.{book_of};
-    ghost use Rattle.hop_shelf.specs.Sound.{MayGrow, IsParcel, Arrives, IsSound, Fits, Installs};
+    ghost use Rattle.hop_shelf.specs.Sound.{MayGrow, IsParcel, Arrives, IsSound, Lends, Installs};
     ghost use Rattle.hop_shelf.specs.Journal.{AddsEvent, IsBeginning};
-    ghost use Rattle.hop_shelf.specs.Kept.{committed_by, is_other, OwnersApart};
-    ghost use Rattle.hop_shelf.specs.Finish.{IsFirstNotDone, NamesBelow};
-    ghost use Rattle.hop_shelf.specs.Cuts.{IsCut};
+    ghost use Rattle.hop_shelf.specs.Kept.{committed_by, is_other, all_parts, OwnersApart};
+    ghost use Rattle.hop_shelf.specs.Finish.{IsFirstNotDone, AllDone, NamesBelow};
+    ghost use Rattle.hop_shelf.specs.Cuts.{IsCut, AreDue, AreAllCut};
 
     /// The shelf of the empty history, of the reducer of partition `p`. What it is made from are the
     /// record counts, the marks, the script and the settings of its run.
@@ -156,7 +156,8 @@ impl<N: RunName> Shelf<N> {
 
     /// Records that a range came. It is taken exactly where it goes on where its attempt's records end,
     /// the attempt isn't revoked and its split has no other winner. It is one event, and takes no
-    /// memory.
+    /// memory. It asks for room, that neither a cut nor a restart is due, a range that the attempt may
+    /// come to make, with the run of it, and of a range that was fetched that it is one to be taken.
     pub fn arrive(&mut self, parcel: Parcel, via: Via) -> Arrived
         requires grows { MayGrow self.old }
         requires range { IsRange (rules_of N.records N.script N.settings) (λ i. N.settings.attempts) parcel.part }
@@ -181,7 +182,8 @@ impl<N: RunName> Shelf<N> {
     }
 
     /// Records that the attempt won its split: its runs are committed. It is one event, and takes no
-    /// memory.
+    /// memory. It asks for room, that neither a cut nor a restart is due, that the split has no winner,
+    /// that the attempt isn't revoked, and that it doesn't fail by the script.
     pub fn won(&mut self, split: u32, attempt: u8)
         requires grows { MayGrow self.old }
         requires may { MayWin (rules_of N.records N.script N.settings) (λ i. N.settings.attempts) self.old.journal.events split attempt }
@@ -193,7 +195,9 @@ impl<N: RunName> Shelf<N> {
         kept::commit_all(&mut self.kept, split, attempt);
     }
 
-    /// Records that the attempt was revoked: its runs are gone. It is one event, and takes no memory.
+    /// Records that the attempt was revoked: its runs are gone. It is one event, and takes no memory. It
+    /// asks for room, that neither a cut nor a restart is due, and that the attempt is neither the winner
+    /// of its split nor revoked already.
     pub fn revoked(&mut self, split: u32, attempt: u8)
         requires grows { MayGrow self.old }
         requires may { MayBeRevoked (rules_of N.records N.script N.settings) (λ i. N.settings.attempts) self.old.journal.events split attempt }
@@ -212,7 +216,8 @@ impl<N: RunName> Shelf<N> {
         self.journal.restart_due()
     }
 
-    /// Records the restart that is due. No run is left. It takes no memory.
+    /// Records the restart that is due. No run is left. It takes no memory. It asks for room and that no
+    /// cut is due.
     pub fn restart(&mut self)
         requires spare { 1 ≤ self.old.journal.spare }
         requires no_cut { self.old.journal.due ≡ [] }
@@ -272,18 +277,19 @@ impl<N: RunName> Shelf<N> {
     }
 
     /// What holds of every shelf: its history grows legally, its runs stand for their parts where the
-    /// spill folders tell, and the parts of its runs are those of the history. It does nothing: proofs
-    /// learn it so.
+    /// spill folders tell, the parts of its runs are those of the history, and none is of a revoked
+    /// attempt. It does nothing: proofs learn it so.
     pub fn known(&self)
         ensures sound { IsSound (rules_of N.records N.script N.settings) self.now.p N.settings.marks N.settings.tentative N.tells N.job.reduced (pairs_of N.job N.records N.settings self.now.p) self.now.journal self.now.kept }
+        ensures revoked { All (λ q. is_revoked q.split q.attempt self.now.journal.events ≡ false) (all_parts self.now.kept) }
     {
         let _p = self.p;
     }
 
-    /// Copies of two runs that may be merged, both committed or both of one attempt. There are none
-    /// exactly where no two runs are so. It is one pass over the runs.
+    /// Copies of two runs of the shelf that may be merged, both committed or both of one attempt. There
+    /// are none exactly where no two runs are so. It is one pass over the runs.
     pub fn lend(&self) -> Result<Option<MergeWork<N>>, NoMemory>
-        ensures { IfOk result (λ work. MatchOption work (OwnersApart self.now.kept) (λ w. Fits self.now w)) }
+        ensures { IfOk result (λ work. MatchOption work (OwnersApart self.now.kept) (λ w. Lends self.now w)) }
     {
         match pair_of_one_owner(*self.kept.allocator(), &self.kept)? {
             None => Ok(None),
@@ -347,11 +353,13 @@ impl<N: RunName> Shelf<N> {
         Ok(cuts)
     }
 
-    /// The cuts of the marks that the last event, or the empty history, first reached. Afterwards none
-    /// is due. After `NoMemory` they are still due.
+    /// The cuts of the marks that the last event, or the empty history, first reached: while they are due,
+    /// each mark of the run whose cut the history is now. Afterwards none is due. After `NoMemory` they
+    /// are still due.
     pub fn cuts_due(&mut self) -> Result<Cuts, NoMemory>
         ensures marks { IfOk result (λ cuts. map (λ c. c.mark) cuts ≡ self.old.journal.due) }
         ensures cuts { IfOk result (λ cuts. All (IsCut N.tells N.job.reduced (pairs_of N.job N.records N.settings self.old.p) self.old.journal) cuts) }
+        ensures every { IfOk result (λ cuts. AreDue self.old.journal → AreAllCut self.old.journal (map (λ c. c.mark) cuts)) }
         ensures ok { OnOk result (self.new ≡ record self.old { journal = record self.old.journal { due = [] } }) }
         ensures err { OnErr result (self.new ≡ self.old) }
     {
@@ -363,14 +371,18 @@ impl<N: RunName> Shelf<N> {
 
     /// Records the end of the history, where each split's winner is there with all its records and each
     /// other attempt below its split's number in `begun` is revoked. `NotYet` names exactly the first
-    /// split of which that isn't so; then nothing changes. It takes no memory.
+    /// split of which that isn't so; then nothing changes. It takes no memory. The history is finished
+    /// where this is its first finish. It asks for room, that neither a cut nor a restart is due, and that
+    /// `begun` has a number, at most 16, for each split, above each of its attempts that the history names.
     pub fn finish(&mut self, begun: &[u8]) -> Result<(), NotYet>
         requires grows { MayGrow self.old }
         requires each { length begun.now ≡ length self.old.journal.lens }
         requires few { All (λ b. b ≤ 16) begun.now }
         requires named { NamesBelow (slice_index begun.now) self.old.journal.events }
         ensures event { OnOk result (AddsEvent self.old.journal Event.Finish self.new.journal) }
-        ensures finished { OnOk result (IsFinished (rules_of N.records N.script N.settings) self.old.p begun.now self.new.journal.events) }
+        ensures done { OnOk result (AllDone self.new.journal begun.now) }
+        ensures won { OnOk result (AllWon self.new.journal.lens self.new.journal.events) }
+        ensures finished { OnOk result (NoFinish self.old.journal.events → IsFinished (rules_of N.records N.script N.settings) self.old.p begun.now self.new.journal.events) }
         ensures kept { self.new.kept ≡ self.old.kept }
         ensures p { self.new.p ≡ self.old.p }
         ensures same { OnErr result (self.new ≡ self.old) }
@@ -385,10 +397,11 @@ impl<N: RunName> Shelf<N> {
         }
     }
 
-    /// The text of the partition, where the history is finished: that of the blocking job.
+    /// The text of the partition, where each split's winner is there with all its records: that of the
+    /// blocking job.
     pub fn reduced<J: Job>(&self, job: &J) -> Result<Text, NoMemory>
         requires job { J.meaning job.now ≡ N.job }
-        requires finished { is_finished self.now.journal.events ≡ true }
+        requires won { AllWon self.now.journal.lens self.now.journal.events }
         ensures { IfOk result (λ text. IsTrue N.tells → text ≡ blocking N.job N.records self.now.p N.settings.reducers) }
     {
         let alloc = *self.kept.allocator();

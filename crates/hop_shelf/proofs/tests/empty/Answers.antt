@@ -1,5 +1,5 @@
-use Rattle.hop_shelf.proofs.PlainRun.{plain_run}
+use Rattle.hop_shelf.proofs.SampleLaws.{sample_run}
 use Rattle.hop_shelf.proofs.tests.empty.Goals as goal
 
-pub new-requires-2-clause-run : goal.new-requires-2-clause-run
-new-requires-2-clause-run c = plain_run
+pub new-requires-clause-run : goal.new-requires-clause-run
+new-requires-clause-run c = sample_run

@@ -13,7 +13,7 @@ pub invariant_of-self : goal.invariant_of-self
 invariant_of-self g c =
     let back = sym c.self.view_is in
     let grows = subst MayGrow back c.requires.grows in
-    arrived_sound (rules_of g.N.RunName.records g.N.RunName.script g.N.RunName.settings) c.self.inside.p g.N.RunName.settings.marks g.N.RunName.settings.tentative g.N.RunName.tells g.N.RunName.job.reduced (pairs_of g.N.RunName.job g.N.RunName.records g.N.RunName.settings c.self.inside.p) c.self.inside.journal c.self.inside.kept.items c.self.invariant grows.no_restart grows.unfinished
+    arrived_sound (rules_of g.N.RunName.records g.N.RunName.script g.N.RunName.settings) c.self.inside.p g.N.RunName.settings.marks g.N.RunName.settings.tentative g.N.RunName.tells g.N.RunName.job.reduced (pairs_of g.N.RunName.job g.N.RunName.records g.N.RunName.settings c.self.inside.p) c.self.inside.journal c.self.inside.kept.items c.self.invariant grows.no_restart
     c.args.parcel.part c.args.via c.add.new.self c.args.parcel.run c.len-number.result c.owner_of-owner.result c.push_reserved.new.self.items c.add.ensures.adds
     c.requires.range
     c.requires.worker
@@ -25,7 +25,7 @@ pub invariant_of-self-else-goes_on : goal.invariant_of-self-else-goes_on
 invariant_of-self-else-goes_on g c =
     let back = sym c.self.view_is in
     let grows = subst MayGrow back c.requires.grows in
-    ignored_sound (rules_of g.N.RunName.records g.N.RunName.script g.N.RunName.settings) c.self.inside.p g.N.RunName.settings.marks g.N.RunName.settings.tentative g.N.RunName.tells g.N.RunName.job.reduced (pairs_of g.N.RunName.job g.N.RunName.records g.N.RunName.settings c.self.inside.p) c.self.inside.journal c.self.inside.kept.items c.self.invariant grows.no_restart grows.unfinished
+    ignored_sound (rules_of g.N.RunName.records g.N.RunName.script g.N.RunName.settings) c.self.inside.p g.N.RunName.settings.marks g.N.RunName.settings.tentative g.N.RunName.tells g.N.RunName.job.reduced (pairs_of g.N.RunName.job g.N.RunName.records g.N.RunName.settings c.self.inside.p) c.self.inside.journal c.self.inside.kept.items c.self.invariant grows.no_restart
     c.args.parcel.part c.args.via c.upto-have.result c.add-else-goes_on.new.self c.add-else-goes_on.ensures.adds
     c.requires.range
     c.requires.worker
