@@ -1,5 +1,5 @@
 -- A vault stays sound when a spill is kept, and when it isn't.
-use Rattle.std.proofs.Common.{◌≡◌, ◌≢◌, ℕ, ◌-◌, ◌<◌, ◌≤◌, ◌^◌, ◌&&◌, inl, inr, Bool, true, false, cond, eqb, List, [], ◌∷◌, ◌++◌, length, take, Option, Some, None, refl, sym, ap, subst, ◌∙◌, arith}
+use Rattle.std.proofs.Common.{◌≡◌, ◌≢◌, ℕ, ◌-◌, ◌<◌, ◌≤◌, ◌^◌, ◌&&◌, inl, inr, Bool, true, false, cond, eqb, List, [], ◌∷◌, ◌++◌, length, Option, Some, None, refl, sym, ap, subst, ◌∙◌, arith}
 use Rattle.std.specs.Prelude.{IfSome, IfErr, OnOk, Result, Ok, Err, unwrap_or}
 use Rattle.std.specs.Option.{option_map}
 use Rattle.std.specs.FinMap as map
@@ -10,10 +10,9 @@ use Rattle.std.specs.Cmp.{tied_itself}
 use Rattle.std.specs.Cmp.Lexicographic.{slice_cmp}
 use Rattle.std.proofs.lemmas.Cmp.{nat_list_cmp_total}
 use Rattle.std.proofs.lemmas.Map.Lookups.{exact_bytes}
-use Rattle.std.proofs.lemmas.Bool.{false≢true, eqb-true, eq-eqb}
+use Rattle.std.proofs.lemmas.Bool.{false≢true, eqb-true}
 use Rattle.std.proofs.lemmas.List.{length_push, get_or_push}
 use Rattle.std.proofs.lemmas.Option.{slice_get-get_or}
-use Rattle.std.proofs.Math.Seq.{take-append_seam}
 use Rattle.hop_base.specs.Files.{Files}
 use Rattle.hop_ports.specs.Views.{FolderView, with_file}
 use Rattle.hop_spill.specs.declared.spill.Spill.{Spill}
@@ -21,7 +20,7 @@ use Rattle.hop_spill.specs.Spelling.{IsSpill, spill_text}
 use Rattle.hop_vault.specs.declared.kept.Kept.{Kept}
 use Rattle.hop_vault.specs.declared.kept.KeepFault.{KeepFault}
 use Rattle.hop_vault.specs.declared.kept.KeepFault.TheVariants as fault
-use Rattle.hop_vault.specs.Rows.{Table, row_of, end_of, kept_end, IsChain, SameRows, AddsTo, TakesFrom, all_but_last}
+use Rattle.hop_vault.specs.Rows.{Table, row_of, end_of, kept_end, IsChain, SameRows, AddsTo}
 use Rattle.hop_vault.specs.Stored.{name_of, IsStored, AreStored}
 use Rattle.hop_vault.specs.Vaults.{IsSound, IsKept, IsKeptIn, KeepCause}
 use Rattle.hop_vault.proofs.NameLaws.{name_tells}
@@ -171,26 +170,6 @@ sound_kept old new before after spill kept is next h k adds e = record {
         let below : (i ≡ spill.split) → (a ≡ spill.attempt) → end_of (row_of before i a) ≤ spill.from = λ p q. let c : kept_end before i a ≡ kept_end before spill.split spill.attempt = rw (p, q) refl in omega (arith, c, next) in
         let others = stored_put files spill.split spill.attempt spill.from (spill_text spill) (omega (arith, is.split)) (omega (arith, is.attempt)) (omega (arith, is.from)) i a 0 (row_of before i a) (end_of (row_of before i a)) (h.chain i a) below (r i a) in
         subst (λ (row : List Kept). AreStored (map.insert files (name_of spill.split spill.attempt spill.from) (spill_text spill)) i a row) (sym (adds i a)) (rows files i a (eqb i spill.split && eqb a spill.attempt) refl others)
-
--- what was added is taken back
-back : (row : List Kept) (kept : Kept) → all_but_last (row ++ kept ∷ []) ≡ row
-back row kept =
-    let len : length (row ++ kept ∷ []) - 1 ≡ length row = omega (arith, length_push row kept) in
-    ap (λ (n : ℕ). take n (row ++ kept ∷ [])) len ∙ take-append_seam row (kept ∷ [])
-
-pub taken_back : (before between after : Table) (split attempt : ℕ) (kept : Kept) → AddsTo before between split attempt kept → TakesFrom between after split attempt → SameRows before after
-taken_back before between after split attempt kept adds takes i a = takes i a ∙ step (eqb i split && eqb a attempt) (row_of between i a) (row_of before i a) (adds i a)
-  where
-    step : (b : Bool) (row old : List Kept) → row ≡ cond b (old ++ kept ∷ []) old → cond b (all_but_last row) row ≡ old
-    step true row old e = ap all_but_last e ∙ back old kept
-    step false row old e = e
-
--- an attempt that has one spill more has some
-pub added_some : (before between : Table) (split attempt : ℕ) (kept : Kept) → AddsTo before between split attempt kept → 0 < length (row_of between split attempt)
-added_some before between split attempt kept adds =
-    let yes : (eqb split split && eqb attempt attempt) ≡ true = rw (eq-eqb split split refl, eq-eqb attempt attempt refl) refl in
-    let row : row_of between split attempt ≡ row_of before split attempt ++ kept ∷ [] = adds split attempt ∙ ap (λ (b : Bool). cond b (row_of before split attempt ++ kept ∷ []) (row_of before split attempt)) yes in
-    omega (arith, ap length row, length_push (row_of before split attempt) kept)
 
 -- a vault after a spill was to be kept
 pub sound_after : (old new : FolderView) (before after : Table) (spill : Spill) (result : Result (Unit {0}) KeepFault) → IsSpill spill → spill.from ≡ kept_end before spill.split spill.attempt → IsSound old before

@@ -55,7 +55,7 @@ not_put put_fault.NoMemory = keep_fault.NoMemory
 abbrev pub KeepCause : FolderView → FolderView → Table → Table → Spill → KeepFault → Type 0
 KeepCause old new before after spill keep_fault.StoreFailed =
     Rose old.puts new.puts × SameRows before after × ((new.held ≡ old.held) ⊎ (new.held ≡ with_file old.held (name_of spill.split spill.attempt spill.from) (spill_text spill)))
-KeepCause old new before after spill keep_fault.NoMemory = SameRows before after × (new.held ≡ old.held)
+KeepCause old new before after spill keep_fault.NoMemory = SameRows before after × (new.held ≡ old.held) × (new.puts ≡ old.puts)
 
 -- a kept spill of a range
 pub record IsOfRange (rows : Table) (part at : Part) (kept : Kept) : Type 0 where
