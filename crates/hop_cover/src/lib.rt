@@ -1,5 +1,5 @@
 //! What a history covers of each split, and its progress, kept as a table by attempt. One event more
-//! changes one split, whatever came before.
+//! changes one split at most, whatever came before; a restart changes all.
 #![tactic(auto)]
 
 pub mod coverage;

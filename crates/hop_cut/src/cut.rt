@@ -31,7 +31,8 @@ pub struct Cut {
 /// A list of cuts.
 pub type Cuts = Listed<Cut>;
 
-/// The snapshot's text: its header, and the reduction of the cut's runs, for partition `p` of `r`.
+/// The snapshot's text: its header, and the reduction of the cut's runs, for partition `p` of `r`. The
+/// cut declares as many splits as `lens` has.
 pub fn cut_text<J: Job>(
     alloc: Global,
     job: &J,
@@ -97,8 +98,8 @@ fn body<J: Job>(alloc: Global, job: &J, runs: &[Run]) -> Result<Vec<u8>, NoMemor
     Ok(text)
 }
 
-/// The pairs of all these runs, in order.
-pub fn whole_sheet(alloc: Global, runs: &[Run]) -> Result<Sheet, NoMemory>
+// The pairs of all these runs, in order.
+fn whole_sheet(alloc: Global, runs: &[Run]) -> Result<Sheet, NoMemory>
     ensures { IfOk result (λ sheet. IsPermutation (flat_map (λ run. run.sheet) runs.now) sheet) }
 {
     let mut pairs = Vec::new(alloc);

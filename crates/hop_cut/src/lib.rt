@@ -9,5 +9,5 @@ mod numbers;
 mod tests;
 mod texts;
 
-pub use cut::{Cut, Cuts, cut_text, whole_sheet};
+pub use cut::{Cut, Cuts, cut_text};
 pub use head::{SnapFault, SnapHead, SplitLine, cut_read};

@@ -1,5 +1,5 @@
 -- What a history covers of each split, its progress and its cuts. Its last event stands first.
-use Rattle.std.specs.Prelude.{◌≡◌, ℕ, zero, suc, ◌*◌, ◌/◌, Bool, true, false, ◌==◌, ◌&&◌, if◌then◌else◌, nat_lt, nat_le, max, Option, Some, None, List, [], ◌∷◌, length, map, sum, slice_index, filter}
+use Rattle.std.specs.Prelude.{ℕ, zero, suc, ◌*◌, ◌/◌, Bool, true, false, ◌==◌, ◌&&◌, if◌then◌else◌, nat_lt, nat_le, max, Option, Some, None, List, [], ◌∷◌, length, map, sum, slice_index, filter}
 use Rattle.std.specs.List.{range_with_len}
 use Rattle.hop_event.specs.declared.event.Event.{Event}
 use Rattle.hop_event.specs.declared.declared.Declared.{Declared}
@@ -58,10 +58,6 @@ cut_or None false h = None
 abbrev pub cut_at : Bool → List ℕ → ℕ → List Event → Option (List Event)
 cut_at tentative lens mark [] = if nat_le mark (progress tentative lens []) then Some [] else None
 cut_at tentative lens mark (e ∷ earlier) = cut_or (cut_at tentative lens mark earlier) (nat_le mark (progress tentative lens (e ∷ earlier))) (e ∷ earlier)
-
--- the coverage c is the cut of the mark
-abbrev pub IsCut : Bool → List ℕ → ℕ → List Event → List (Option Declared) → Type 0
-IsCut tentative lens mark h c = (first : List Event) × (cut_at tentative lens mark h ≡ Some first) × (c ≡ map (declared tentative first) (range_with_len 0 (length lens)))
 
 -- the greatest progress before the last event
 abbrev pub progress_before : Bool → List ℕ → List Event → ℕ

@@ -47,10 +47,10 @@ same_name (Delay w n) (Delay w' n') = w == w'
 same_name line other = false
 
 -- the partition of a line is one of eight
-abbrev pub IsInRange : Line → Type 0
-IsInRange (Fail s a n) = Unit {0}
-IsInRange (Restart p n) = p ≤ 7
-IsInRange (Delay w n) = Unit {0}
+abbrev pub HasPartition : Line → Type 0
+HasPartition (Fail s a n) = Unit {0}
+HasPartition (Restart p n) = p ≤ 7
+HasPartition (Delay w n) = Unit {0}
 
 -- what a line says of attempts, of restarts and of delays
 abbrev pub fail_part : Line → Option FailLine

@@ -1,7 +1,7 @@
 //! A script while it is read.
 ghost use Rattle.std.specs.Prelude.{◌≡◌, [], ◌∷◌, ◌++◌, List, IfOk, IsTrue, not};
 ghost use Rattle.std.specs.List.{list_any};
-ghost use Rattle.hop_script.specs.Lines.{same_name, IsInRange};
+ghost use Rattle.hop_script.specs.Lines.{same_name, HasPartition};
 
 use crate::line::Line;
 use hop_base::NoMemory;
@@ -47,7 +47,7 @@ impl Draft {
     // Adds a line, and says whether it names what no line before it does. The draft is of no use
     // afterwards if it doesn't.
     pub fn add(&mut self, line: Line) -> Result<bool, NoMemory>
-        requires { IsInRange line }
+        requires { HasPartition line }
         ensures first { (lines : List Line) → IsDraftOf self.old lines → IfOk result (λ first. first ≡ not (list_any (same_name line) lines)) }
         ensures added { (lines : List Line) → IsDraftOf self.old lines → IfOk result (λ first. IsTrue first → IsDraftOf self.new (lines ++ line ∷ [])) }
     {

@@ -1,7 +1,7 @@
 //! The lines of a fault script.
 ghost use Rattle.std.specs.Prelude.{◌≡◌, IfSome};
 ghost use Rattle.hop_script.specs.Text.{words_of};
-ghost use Rattle.hop_script.specs.Lines.{line_form, fail_form, restart_form, delay_form, IsInRange};
+ghost use Rattle.hop_script.specs.Lines.{line_form, fail_form, restart_form, delay_form, HasPartition};
 
 use crate::number::number;
 use crate::text::{next_word, three_words, two_words};
@@ -21,9 +21,9 @@ pub enum Line {
 }
 
 // The line that these bytes are, if they have one of the three forms.
-pub fn line_of(bytes: &[u8]) -> Option<Line>
+pub(crate) fn line_of(bytes: &[u8]) -> Option<Line>
     ensures form { result ≡ line_form (words_of bytes.now) }
-    ensures range { IfSome result IsInRange }
+    ensures partition { IfSome result HasPartition }
 {
     let (word, rest) = next_word(bytes)?;
     if word == b"fail".as_slice() {
@@ -40,7 +40,7 @@ pub fn line_of(bytes: &[u8]) -> Option<Line>
 // The numbers of a line `fail SPLIT ATTEMPT AT`.
 fn fail_of(rest: &[u8]) -> Option<Line>
     ensures form { result ≡ fail_form (words_of rest.now) }
-    ensures range { IfSome result IsInRange }
+    ensures partition { IfSome result HasPartition }
 {
     let (split, attempt, at) = three_words(rest)?;
     let split = number(0, 1_023, split)?;
@@ -52,7 +52,7 @@ fn fail_of(rest: &[u8]) -> Option<Line>
 // The numbers of a line `restart PARTITION ARRIVALS`.
 fn restart_of(rest: &[u8]) -> Option<Line>
     ensures form { result ≡ restart_form (words_of rest.now) }
-    ensures range { IfSome result IsInRange }
+    ensures partition { IfSome result HasPartition }
 {
     let (partition, arrivals) = two_words(rest)?;
     let partition = number(0, 7, partition)? as u8;
@@ -66,7 +66,7 @@ fn restart_of(rest: &[u8]) -> Option<Line>
 // The numbers of a line `delay WORKER TURNS`.
 fn delay_of(rest: &[u8]) -> Option<Line>
     ensures form { result ≡ delay_form (words_of rest.now) }
-    ensures range { IfSome result IsInRange }
+    ensures partition { IfSome result HasPartition }
 {
     let (worker, turns) = two_words(rest)?;
     let worker = number(0, 7, worker)? as u8;

@@ -17,8 +17,8 @@ use std::alloc::Global;
 use std::collections::{BTreeMap, BTreeSet};
 use std::marker::Model;
 
-/// Where attempts fail, reducers restart and workers idle. A script says nothing of what the run
-/// hasn't got.
+/// Where attempts fail, reducers restart and workers idle. Lines on what a run hasn't got have no effect
+/// there.
 #[derive(Drop)]
 pub struct Script {
     fails: BTreeMap<Attempt, u32>,
@@ -52,7 +52,7 @@ impl Script {
     /// `restart PARTITION ARRIVALS` or `delay WORKER TURNS`, with single spaces and numbers without
     /// leading zeros in the ranges of [`Line`]. A line is bad if it isn't so, or if an earlier line
     /// names the same attempt, the same restart or the same worker. `BadLine` comes exactly where there
-    /// is a bad line, with the first one.
+    /// is a bad line, with the first one. The text is below 2^32 bytes.
     pub fn read(alloc: Global, bytes: &[u8]) -> Result<Script, LineFault>
         requires { length bytes.now < 2 ^ 32 }
         ensures value { IfOk result (λ script. script ≡ script_of bytes.now) }

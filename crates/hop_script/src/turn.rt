@@ -17,7 +17,8 @@ pub enum TurnOf {
     Merger(u8),
     /// `s`, the writer of the snapshots.
     Writer,
-    /// `c`, the coordinator, which lets the reducers catch up with the committed attempts.
+    /// `c`, the coordinator, which lets the reducers catch up with every attempt that has kept spills and
+    /// that they still want, a tentative one too.
     CatchUp,
 }
 
@@ -37,7 +38,7 @@ pub struct Actors {
 }
 
 // The turns that a line is, if it has one of the two forms and the run has the actor.
-pub fn turn_of(actors: Actors, bytes: &[u8]) -> Option<Turn>
+pub(crate) fn turn_of(actors: Actors, bytes: &[u8]) -> Option<Turn>
     ensures form { result ≡ turn_form actors (words_of bytes.now) }
     ensures known { IfSome result (IsTurn actors) }
 {

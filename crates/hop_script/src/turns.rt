@@ -33,7 +33,7 @@ impl Turns {
     /// ends with a line feed and is an actor, `mW`, `rP`, `gJ`, `s` or `c`, or an actor, a space and a
     /// count from 1 to 1,000,000. A line is bad if it isn't so, names an actor that the run hasn't got,
     /// or brings the number of turns above 1,000,000. `BadLine` comes exactly where there is a bad
-    /// line, with the first one.
+    /// line, with the first one. The text is below 2^32 bytes.
     pub fn read(
         alloc: Global,
         bytes: &[u8],

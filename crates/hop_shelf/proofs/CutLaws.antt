@@ -28,7 +28,8 @@ use Rattle.hop_shelf.specs.declared.kept.Owner.TheVariants.{Committed, Attempt}
 use Rattle.hop_shelf.specs.Kept.{all_parts}
 use Rattle.hop_shelf.specs.Parts.{part_cmp, is_of, parts_of, IsChain}
 use Rattle.hop_shelf.specs.Sound.{AreOwned, IsKept, IsConsecutive, RunsFit}
-use Rattle.hop_shelf.specs.Covered.{IsOfRanges, covered_by, declares, covers_owner, covered_runs}
+use Rattle.hop_shelf.specs.Covered.{IsOfRanges, declares}
+use Rattle.hop_shelf.proofs.CoveredParts.{covered_by, covers_owner, covered_runs, whole_parts}
 use Rattle.hop_shelf.proofs.Chains.{part_exact, chain_backward}
 use Rattle.hop_shelf.proofs.SoundLaws.{same_yes, same_means}
 use Rattle.hop_shelf.proofs.Together.{parts_at, declared_means, covered_pairs, runs_together, stands_permuted, flat_same}
@@ -40,7 +41,6 @@ use Rattle.std.proofs.lemmas.List.FromFn.{get_or-map-range_with_len, length-map-
 use Rattle.hop_shelf.specs.Journal.{JournalValue}
 use Rattle.hop_shelf.specs.Sound.{IsSound}
 use Rattle.hop_shelf.specs.Covered.{covers_in}
-use Rattle.hop_shelf.specs.Finish.{whole_parts}
 use Rattle.hop_event.specs.Legal.{AllWon}
 use Rattle.hop_laws.specs.Groups.{red}
 use Rattle.hop_laws.proofs.Values.{each_permuted}

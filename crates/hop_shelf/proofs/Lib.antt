@@ -1,4 +1,5 @@
 pub mod Chains
+pub mod CoveredParts
 pub mod CutLaws
 pub mod JournalLaws
 pub mod KnownLaws

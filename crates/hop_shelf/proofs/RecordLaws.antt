@@ -10,7 +10,7 @@ use Rattle.std.proofs.lemmas.List.FromFn.{length-map-range_with_len, get_or-map-
 use Rattle.std.proofs.lemmas.Grind.{div_ceil_times}
 use Rattle.hop_records.specs.Records.{BookValue, splits_of, len_of, lens_of}
 use Rattle.hop_cut.proofs.TextLaws.{emitted_parts}
-use Rattle.hop_shelf.specs.Finish.{whole_split, whole_parts}
+use Rattle.hop_shelf.proofs.CoveredParts.{whole_split, whole_parts}
 use Rattle.hop_base.specs.Meaning.{Meaning}
 use Rattle.hop_base.specs.Run.{RunSettings}
 use Rattle.hop_laws.specs.Blocking.{emitted, part_records}

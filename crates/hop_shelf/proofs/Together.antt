@@ -19,7 +19,8 @@ use Rattle.hop_run.specs.Runs.{RunValue}
 use Rattle.hop_cut.specs.Covered.{StandTogether, part_declared}
 use Rattle.hop_shelf.specs.Holds.{RunHolds}
 use Rattle.hop_shelf.specs.Parts.{part_cmp, parts_of, IsChain}
-use Rattle.hop_shelf.specs.Covered.{IsByRecords, IsOfRanges, covered_by}
+use Rattle.hop_shelf.specs.Covered.{IsByRecords, IsOfRanges}
+use Rattle.hop_shelf.proofs.CoveredParts.{covered_by, whole_split, whole_parts}
 use Rattle.hop_shelf.proofs.Chains.{AllOf, part_total, part_exact, chain_backward}
 use Rattle.hop_shelf.proofs.SoundLaws.{parts_all_of}
 use Rattle.hop_event.specs.declared.event.Event.{Event}
@@ -31,7 +32,6 @@ use Rattle.std.proofs.Common.{eqb}
 use Rattle.std.proofs.lemmas.List.{append-nil, take_more}
 use Rattle.std.proofs.Common.{take, get_or, slice_index}
 use Rattle.hop_event.specs.Legal.{IsWon}
-use Rattle.hop_shelf.specs.Finish.{whole_split, whole_parts}
 use Rattle.std.proofs.lemmas.Bool.Decides.{nat_tests}
 
 pub stands_trans : (reduce : List ℕ → List Val → List ℕ) (a b c : List Pair) → StandsFor reduce a b → StandsFor reduce b c → StandsFor reduce a c

@@ -1,7 +1,5 @@
 -- When a history may be finished.
 use Rattle.std.specs.Prelude.{ℕ, ◌<◌, List, [], ◌∷◌, length, slice_index}
-use Rattle.std.specs.List.{flat_map, range_with_len}
-use Rattle.hop_base.specs.declared.part.Part.{Part}
 use Rattle.hop_event.specs.Legal.{IsWon, AllSettled}
 use Rattle.hop_event.specs.declared.event.Event.{Event}
 use Rattle.hop_event.specs.declared.event.Event.TheVariants.{Arrive, Ignore, Won, Revoked, Restart, Finish}
@@ -20,14 +18,6 @@ pub record IsFirstNotDone (j : JournalValue) (begun : List ℕ) (i : ℕ) : Type
   pub split : i < length j.lens
   pub before : (k : ℕ) → k < i → IsDone j begun k
   pub here : IsDone j begun i → ⊥
-
--- all records of a split, by whichever attempt
-abbrev pub whole_split : List ℕ → ℕ → Part
-whole_split lens i = record { split = i; attempt = 0; from = 0; to = slice_index lens i }
-
--- all records of the run of the job
-abbrev pub whole_parts : List ℕ → List Part
-whole_parts lens = flat_map (λ i. whole_split lens i ∷ []) (range_with_len 0 (length lens))
 
 -- an attempt that an event names is below this number of its split
 abbrev pub IsBelow : (ℕ → ℕ) → Event → Type 0

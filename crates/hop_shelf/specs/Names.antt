@@ -21,7 +21,7 @@ rules_of records script settings = record { lens = lens_of (book_of records sett
 abbrev pub pairs_of : Meaning → List (List ℕ) → RunSettings → ℕ → Part → List Pair
 pairs_of job records settings p part = part_pairs job records settings.split p settings.reducers part
 
--- the job is lawful, its records are short enough for it, and the settings are in their ranges
+-- the job is lawful, its records are short enough for it, and at most 16 attempts of a split may be begun
 pub record IsRun (job : Meaning) (records : List (List ℕ)) (settings : RunSettings) : Type 0 where
   pub lawful : IsLawful job
   pub short : All (λ line. length line ≤ 131050) records

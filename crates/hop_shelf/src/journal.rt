@@ -1,5 +1,5 @@
 //! A history with what is read off it: the coverage, the restart that is due, and the marks that are reached.
-ghost use Rattle.std.specs.Prelude.{◌≡◌, ◌+◌, ◌^◌, ◌<◌, ◌≤◌, ◌∷◌, [], ℕ, length, All, IfOk, OnOk, OnErr, IfSome, IfNone, IsTrue, ◌↔◌, ◌⊎◌, true, ◌==◌, ◌&&◌, max, if◌then◌else◌};
+ghost use Rattle.std.specs.Prelude.{◌≡◌, ◌+◌, ◌^◌, ◌<◌, ◌≤◌, ◌∷◌, [], ℕ, length, All, IfOk, OnOk, OnErr, IfSome, IfNone, IsTrue, ◌↔◌, ◌⊎◌, true, ◌==◌, ◌&&◌, if◌then◌else◌};
 ghost use Rattle.std.specs.List.{list_any};
 ghost use Rattle.hop_event.specs.History.{upto, winner, is_revoked};
 ghost use Rattle.hop_event.specs.Legal.{restart_due, IsWon, AllSettled};
@@ -60,13 +60,6 @@ fn between(alloc: Global, marks: &[u16], before: u16, top: u16) -> Result<Vec<u1
         .copied()
         .filter(|m| before < *m && *m <= top)
         .collect(alloc)
-}
-
-// The larger of the two.
-fn larger(a: u16, b: u16) -> u16
-    ensures { result ≡ max a b }
-{
-    if a > b { a } else { b }
 }
 
 // The number of arrivals after an event.
@@ -131,7 +124,7 @@ impl Journal {
         self.history.push(e);
         self.coverage.note(e);
         self.before = self.top;
-        self.top = larger(self.coverage.progress(), self.top);
+        self.top = self.coverage.progress().max(self.top);
         let arrival = is_arrival(&e);
         self.count = counted(self.count, arrival);
         self.restart = restart_after(&self.restarts, self.count, arrival);

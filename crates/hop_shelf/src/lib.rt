@@ -4,7 +4,7 @@
 
 mod covering;
 mod journal;
-pub mod kept;
+mod kept;
 pub mod shelf;
 #[cfg(test)]
 mod tests;

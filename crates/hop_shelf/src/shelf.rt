@@ -27,7 +27,8 @@ use thiserror::Error;
 /// What became of a range.
 #[derive(Clone, Copy, Debug, PartialEq, Eq)]
 pub enum Arrived {
-    /// The range goes on where its attempt's records ended, and is kept.
+    /// The range goes on where its attempt's records ended, the attempt may still count, and the range is
+    /// kept.
     Taken,
     /// It doesn't, or its attempt can't count any more. `have` records of the attempt are there.
     Ignored { have: u32 },
@@ -112,7 +113,8 @@ impl<N: RunName> Shelf<N> {
     ghost use Rattle.hop_shelf.specs.Cuts.{IsCut, AreDue, AreAllCut};
 
     /// The shelf of the empty history, of the reducer of partition `p`. What it is made from are the
-    /// record counts, the marks, the script and the settings of its run.
+    /// record counts, the marks, the script and the settings of its run. The run's job is lawful, its
+    /// records have at most 131,050 bytes, and at most 16 attempts of a split may be begun.
     pub fn new(
         alloc: Global,
         lens: &Lens,

@@ -8,6 +8,10 @@ use hop_event::Via;
 use std::test::Fail;
 
 fn arrive(split: u32, attempt: u8, from: u32, to: u32) -> Event {
+    arrive_by(split, attempt, from, to, 0)
+}
+
+fn arrive_by(split: u32, attempt: u8, from: u32, to: u32, worker: u8) -> Event {
     Event::Arrive {
         part: Part {
             split,
@@ -15,7 +19,7 @@ fn arrive(split: u32, attempt: u8, from: u32, to: u32) -> Event {
             from,
             to,
         },
-        via: Via::Lane(0),
+        via: Via::Lane(worker),
     }
 }
 
@@ -135,8 +139,8 @@ fn two_attempts_of_one_split(rt: HostRuntime) -> Result<(), Fail> {
     lens.push(2)?;
     let mut coverage = Coverage::new(rt.alloc(), &lens, true)?;
     let events = [
-        arrive(0, 0, 0, 1),
-        arrive(0, 1, 0, 1),
+        arrive_by(0, 0, 0, 1, 0),
+        arrive_by(0, 1, 0, 1, 1),
         revoked(0, 0),
         Event::Restart,
         won(0, 1),

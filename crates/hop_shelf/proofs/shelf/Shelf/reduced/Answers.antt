@@ -9,7 +9,7 @@ use Rattle.hop_event.specs.declared.declared.Declared.{Declared}
 use Rattle.hop_event.specs.Legal.{AllWon}
 use Rattle.hop_shelf.specs.declared.kept.Kept.{Kept}
 use Rattle.hop_shelf.specs.Covered.{covers_in}
-use Rattle.hop_shelf.specs.Finish.{whole_parts}
+use Rattle.hop_shelf.proofs.CoveredParts.{whole_parts}
 use Rattle.hop_shelf.specs.Names.{rules_of, pairs_of}
 use Rattle.hop_shelf.specs.Sound.{ShelfValue}
 use Rattle.hop_shelf.proofs.CutLaws.{sound_reduced}
