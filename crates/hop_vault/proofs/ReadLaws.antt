@@ -1,9 +1,9 @@
 -- A kept spill that is read back.
-use Rattle.std.proofs.Common.{◌≡◌, ℕ, zero, suc, ◌+◌, ◌<◌, List, [], ◌∷◌, ◌++◌, length, take, get_or, Option, Some, None, Result, Ok, Err, refl, sym, ap, subst, ◌∙◌, arith}
-use Rattle.std.specs.Prelude.{IfSome, IfErr}
+use Rattle.std.proofs.Common.{◌≡◌, ℕ, zero, suc, ◌+◌, ◌<◌, ◌≤◌, List, [], ◌∷◌, ◌++◌, length, map, take, get_or, Option, Some, None, Result, Ok, Err, refl, sym, ap, subst, ◌∙◌, arith}
+use Rattle.std.specs.Prelude.{IfSome, IfOk, IfErr}
 use Rattle.std.specs.FinMap as map
 use Rattle.std.proofs.lemmas.Bool.{eq-eqb, lt-leb}
-use Rattle.std.proofs.lemmas.List.{take_more}
+use Rattle.std.proofs.lemmas.List.{take_more, append-nil}
 use Rattle.sha2.specs.Sha256.{sha256}
 use Rattle.hop_base.specs.declared.part.Part.{Part}
 use Rattle.hop_base.specs.declared.value.Pair.{Pair}
@@ -11,14 +11,16 @@ use Rattle.hop_base.specs.Files.{Files}
 use Rattle.hop_ports.specs.Views.{FolderView}
 use Rattle.hop_ports.specs.Causes.{OnlyRead}
 use Rattle.hop_spill.specs.declared.spill.Spill.{Spill}
-use Rattle.hop_spill.specs.Spelling.{spill_text}
+use Rattle.hop_spill.specs.Spelling.{IsSpill, spill_text}
 use Rattle.hop_spill.specs.Reading.{placed, read_spill}
-use Rattle.hop_spill.proofs.SpillLaws.{spill_again}
+use Rattle.hop_spill.proofs.SpillLaws.{spill_again, no_prefix}
 use Rattle.hop_vault.specs.declared.kept.Kept.{Kept}
 use Rattle.hop_vault.specs.declared.kept.FetchFault.{FetchFault}
 use Rattle.hop_vault.specs.declared.kept.FetchFault.TheVariants as fault
-use Rattle.hop_vault.specs.Rows.{Table, row_of, range_of, IsStretch}
-use Rattle.hop_vault.specs.Stored.{name_of, IsStored, AreStored, IsFetched, AreFetched, first_other, other_place}
+use Rattle.hop_vault.specs.Rows.{Table, row_of, range_of, IsChain, IsStretch}
+use Rattle.hop_vault.specs.Stored.{name_of, IsStored, AreStored, IsFetched, AreFetched, AreHeldFrom, sheet_of, first_other, other_place}
+use Rattle.hop_vault.specs.Vaults.{AreOfHeld}
+use Rattle.hop_vault.proofs.SoundLaws.{chain_up}
 use Rattle.hop_vault.specs.Reads.{OpenedCause, ReadCause}
 
 no_other : (at : Part) (p : ℕ) (s : Spill) → s.split ≡ at.split → s.attempt ≡ at.attempt → s.from ≡ at.from → s.to ≡ at.to → p < length s.sheets → first_other at p s ≡ None
@@ -106,3 +108,38 @@ pub fetched_more : (held now : Option Files) (split attempt p : ℕ) (spills : L
     → AreFetched held split attempt p (take (i + 1) spills) (sheets ++ sheet ∷ [])
 fetched_more held now split attempt p spills i d sheets sheet e lt h f =
     rw (take_more spills i d lt) (fetched_push held split attempt p (take i spills) sheets (get_or spills i d) sheet h (subst (λ (o : Option Files). IsFetched o split attempt p (get_or spills i d) sheet) e f))
+
+-- ---- the sheets of the spills whose texts are held
+
+held_up : (files : Files) (split attempt from : ℕ) (spills : List Spill) (to : ℕ) → AreHeldFrom files split attempt from spills to → from ≤ to
+held_up files split attempt from [] to h = omega (arith, h)
+held_up files split attempt from (s ∷ spills) to h = let lt = h.0.some in omega (arith, h.1, lt, held_up files split attempt s.to spills to h.3)
+
+same_text : (s t : Spill) → IsSpill s → IsSpill t → spill_text s ≡ spill_text t → s ≡ t
+same_text s t is_s is_t e = (no_prefix t s [] is_t is_s (e ∙ sym (append-nil (spill_text t)))).1
+
+of_held : (files : Files) (split attempt p from : ℕ) (kept : List Kept) (sheets : List (List Pair)) (spills : List Spill) (to : ℕ) → IsChain from kept to → AreFetched (Some files) split attempt p kept sheets → AreHeldFrom files split attempt from spills to
+    → sheets ≡ map (λ spill. sheet_of spill p) spills
+of_held files split attempt p from [] [] [] to c f h = refl
+of_held files split attempt p from [] [] (s ∷ spills) to c f h =
+    let lt = h.0.some in absurd (omega (arith, c, h.1, lt, held_up files split attempt s.to spills to h.3))
+of_held files split attempt p from [] (x ∷ sheets) spills to c f h = absurd f
+of_held files split attempt p from (k ∷ kept) [] spills to c f h = absurd f
+of_held files split attempt p from (k ∷ kept) (x ∷ sheets) [] to c f h = absurd (omega (arith, c.1, h, chain_up k.to kept to c.2))
+of_held files split attempt p from (k ∷ kept) (x ∷ sheets) (s ∷ spills) to c f h =
+    let one = f.0 in
+    let name : name_of split attempt k.from ≡ name_of split attempt from = ap (name_of split attempt) c.0 in
+    let text : spill_text one.spill ≡ spill_text s = some_is (spill_text one.spill) (spill_text s) (sym one.text_held ∙ ap (map.get files) name ∙ h.2) in
+    let same : one.spill ≡ s = same_text one.spill s one.text.is_spill h.0 text in
+    let sheet : x ≡ sheet_of s p = one.sheet_is ∙ ap (λ (spill : Spill). sheet_of spill p) same in
+    let ends : s.to ≡ k.to = sym (ap (λ (spill : Spill). spill.to) same) ∙ one.text.to_is in
+    let others : sheets ≡ map (λ spill. sheet_of spill p) spills = of_held files split attempt p k.to kept sheets spills to c.2 f.1 (subst (λ (b : ℕ). AreHeldFrom files split attempt b spills to) ends h.3) in
+    cc
+
+pub are_of_held : (held : Option Files) (row : List Kept) (part : Part) (p : ℕ) (kept : List Kept) (sheets : List (List Pair)) → IsStretch row part.from part.to kept → AreFetched held part.split part.attempt p kept sheets → AreOfHeld held part p sheets
+are_of_held held row part p kept sheets s f files spills e h =
+    of_held files part.split part.attempt p part.from kept sheets spills part.to s.chain (subst (λ (o : Option Files). AreFetched o part.split part.attempt p kept sheets) e f) h
+
+pub all_of_held : {E : Type 0} (held : Option Files) (row : List Kept) (part : Part) (p : ℕ) (kept : List Kept) (result : Result (List (List Pair)) E) → IsStretch row part.from part.to kept → IfOk result (AreFetched held part.split part.attempt p kept) → IfOk result (AreOfHeld held part p)
+all_of_held held row part p kept (Ok sheets) s f = are_of_held held row part p kept sheets s f
+all_of_held held row part p kept (Err e) s f = tt

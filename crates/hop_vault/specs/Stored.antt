@@ -65,3 +65,9 @@ AreFetched held split attempt p [] [] = Unit {0}
 AreFetched held split attempt p (kept ∷ row) (sheet ∷ sheets) = IsFetched held split attempt p kept sheet × AreFetched held split attempt p row sheets
 AreFetched held split attempt p [] (sheet ∷ sheets) = ⊥
 AreFetched held split attempt p (kept ∷ row) [] = ⊥
+
+-- spills of an attempt whose ranges follow each other from here to there, and whose texts are held under their names
+abbrev pub AreHeldFrom : Files → ℕ → ℕ → ℕ → List Spill → ℕ → Type 0
+AreHeldFrom files split attempt from [] to = from ≡ to
+AreHeldFrom files split attempt from (spill ∷ spills) to =
+    IsSpill spill × (spill.from ≡ from) × (map.get files (name_of split attempt from) ≡ Some (spill_text spill)) × AreHeldFrom files split attempt spill.to spills to

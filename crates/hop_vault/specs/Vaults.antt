@@ -1,5 +1,5 @@
 -- What contracts see of a vault, and what each of its calls leaves.
-use Rattle.std.specs.Prelude.{◌≡◌, ◌≢◌, ◌⊎◌, ℕ, List, length, Option, None, Some, IfSome, Contains}
+use Rattle.std.specs.Prelude.{◌≡◌, ◌≢◌, ◌⊎◌, ℕ, List, length, map, Option, None, Some, IfSome, Contains}
 use Rattle.sha2.specs.Sha256.{sha256}
 use Rattle.hop_base.specs.declared.part.Part.{Part}
 use Rattle.hop_base.specs.declared.value.Pair.{Pair}
@@ -17,7 +17,7 @@ use Rattle.hop_vault.specs.declared.kept.KeepFault.TheVariants as keep_fault
 use Rattle.hop_vault.specs.declared.kept.FetchFault.{FetchFault}
 use Rattle.hop_vault.specs.declared.kept.FetchFault.TheVariants as fetch_fault
 use Rattle.hop_vault.specs.Rows.{Table, row_of, kept_end, range_of, IsChain, IsStretch, NoStretch, SameRows, AddsTo}
-use Rattle.hop_vault.specs.Stored.{name_of, AreStored, AreFetched, other_place}
+use Rattle.hop_vault.specs.Stored.{name_of, sheet_of, AreStored, AreFetched, AreHeldFrom, other_place}
 
 -- a vault: its worker, its folder, and the spills that it kept
 pub record VaultValue (V : Type 0) : Type 0 where
@@ -69,6 +69,11 @@ pub record Fetches (held : Option Files) (rows : Table) (part : Part) (p : ℕ) 
   pub spills : List Kept
   pub stretch : IsStretch (row_of rows part.split part.attempt) part.from part.to spills
   pub each : AreFetched held part.split part.attempt p spills sheets
+
+-- where the folder tells, the sheets are those of the spills of the range whose texts it holds
+abbrev pub AreOfHeld : Option Files → Part → ℕ → List (List Pair) → Type 0
+AreOfHeld held part p sheets =
+    (files : Files) (spills : List Spill) → held ≡ Some files → AreHeldFrom files part.split part.attempt part.from spills part.to → sheets ≡ map (λ spill. sheet_of spill p) spills
 
 -- bytes are altered: they have another digest than the one that was kept
 pub record IsDamaged (held : Option Files) (rows : Table) (part at : Part) (digest found : List ℕ) : Type 0 where

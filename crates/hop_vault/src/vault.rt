@@ -37,7 +37,7 @@ impl<V: Folder> Model for Vault<V> {
 }
 
 impl<V: Folder> Vault<V> {
-    ghost use Rattle.hop_vault.specs.Vaults.{IsKeptIn, KeepCause, Fetches, FetchCause};
+    ghost use Rattle.hop_vault.specs.Vaults.{IsKeptIn, KeepCause, Fetches, AreOfHeld, FetchCause};
 
     /// An empty vault of this worker that owns its folder. It takes no memory.
     pub fn new(alloc: Global, folder: V, worker: u8) -> Vault<V>
@@ -97,6 +97,7 @@ impl<V: Folder> Vault<V> {
         ensures worker { self.new.worker ≡ self.old.worker }
         ensures left { OnlyRead (V.seen self.old.folder) (V.seen self.new.folder) }
         ensures found { IfOk result (Fetches (V.seen self.old.folder).held self.old.rows part p) }
+        ensures held { IfOk result (AreOfHeld (V.seen self.old.folder).held part p) }
         ensures not_kept { NoStretch (row_of self.old.rows part.split part.attempt) part.from part.to → result ≡ Err (FetchFault.NotKept (kept_end self.old.rows part.split part.attempt)) }
         ensures cause { IfErr result (FetchCause V.seen self.old self.new part p) }
     {
