@@ -17,6 +17,9 @@ use hop_spill::{Spill, encode};
 use std::alloc::Global;
 use std::marker::Model;
 
+#[cfg(test)]
+mod tests;
+
 /// The spills of a worker's attempts, kept in a folder of its own, with a SHA-256 of each.
 #[derive(Drop)]
 pub struct Vault<V: Folder> {
