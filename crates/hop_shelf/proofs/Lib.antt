@@ -3,6 +3,7 @@ pub mod CoveredParts
 pub mod CutLaws
 pub mod JournalLaws
 pub mod KnownLaws
+pub mod LookupLaws
 pub mod MarkLaws
 pub mod OwnerLaws
 pub mod Places

@@ -1,5 +1,5 @@
 //! A history with what is read off it: the coverage, the restart that is due, and the marks that are reached.
-ghost use Rattle.std.specs.Prelude.{◌≡◌, ◌+◌, ◌^◌, ◌<◌, ◌≤◌, ◌∷◌, [], ℕ, length, All, IfOk, OnOk, OnErr, IfSome, IfNone, IsTrue, ◌↔◌, ◌⊎◌, true, ◌==◌, ◌&&◌, if◌then◌else◌};
+ghost use Rattle.std.specs.Prelude.{◌≡◌, ◌+◌, ◌^◌, ◌<◌, ◌≤◌, ◌∷◌, [], ℕ, length, All, IfOk, OnOk, OnErr, IfSome, IfNone, IsTrue, ◌↔◌, ◌⊎◌, true, false, ◌==◌, ◌&&◌, if◌then◌else◌};
 ghost use Rattle.std.specs.List.{list_any};
 ghost use Rattle.hop_event.specs.History.{upto, winner, is_revoked};
 ghost use Rattle.hop_event.specs.Legal.{restart_due, IsWon, AllSettled};
@@ -128,6 +128,14 @@ impl Journal {
         let arrival = is_arrival(&e);
         self.count = counted(self.count, arrival);
         self.restart = restart_after(&self.restarts, self.count, arrival);
+    }
+
+    /// Whether the run may have the attempt of the split.
+    pub fn has_attempt(&self, i: u32, attempt: u8) -> bool
+        ensures there { result ≡ true → (i < length self.now.lens) × (attempt < 16) }
+        ensures absent { result ≡ false → (length self.now.lens ≤ i) ⊎ (16 ≤ attempt) }
+    {
+        i < self.splits() && attempt < 16
     }
 
     /// The records that are there of an attempt.

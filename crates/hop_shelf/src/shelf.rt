@@ -234,28 +234,35 @@ impl<N: RunName> Shelf<N> {
 
     /// The attempt that won the split, if one did.
     pub fn winner(&self, split: u32) -> Option<u8>
-        requires { split < length self.now.journal.lens }
         ensures { result ≡ winner split self.now.journal.events }
     {
-        self.journal.winner(split)
+        if self.journal.has_attempt(split, 0) {
+            self.journal.winner(split)
+        } else {
+            None
+        }
     }
 
     /// Whether the attempt was revoked.
     pub fn is_revoked(&self, split: u32, attempt: u8) -> bool
-        requires split { split < length self.now.journal.lens }
-        requires attempt { attempt < 16 }
         ensures { result ≡ is_revoked split attempt self.now.journal.events }
     {
-        self.journal.is_revoked(split, attempt)
+        if self.journal.has_attempt(split, attempt) {
+            self.journal.is_revoked(split, attempt)
+        } else {
+            false
+        }
     }
 
-    /// The records that are there of the attempt, in a row from the split's first.
+    /// The records that are there of the attempt, in a row from the split's first; 0 where there are none.
     pub fn upto(&self, split: u32, attempt: u8) -> u32
-        requires split { split < length self.now.journal.lens }
-        requires attempt { attempt < 16 }
         ensures { result ≡ upto split attempt self.now.journal.events }
     {
-        self.journal.upto(split, attempt)
+        if self.journal.has_attempt(split, attempt) {
+            self.journal.upto(split, attempt)
+        } else {
+            0
+        }
     }
 
     /// The history.

@@ -140,7 +140,6 @@ fn know_splits(shelf: &Shelf<Sample>)
 fn wins(shelf: &Shelf<Sample>, attempt: u8) -> bool
     ensures { IsTrue result ↔ (winner 0 shelf.now.journal.events ≡ Some attempt) }
 {
-    know_splits(shelf);
     match shelf.winner(0) {
         None => false,
         Some(a) => a == attempt,
@@ -153,7 +152,6 @@ fn win(shelf: &mut Shelf<Sample>, attempt: u8) -> Result<(), Fail>
     ensures { shelf.new.p ≡ shelf.old.p }
 {
     room(shelf)?;
-    know_splits(shelf);
     if shelf.winner(0).is_some() || shelf.is_revoked(0, attempt) {
         return Err(Fail::new("the attempt may not win"));
     }
@@ -167,7 +165,6 @@ fn revoke(shelf: &mut Shelf<Sample>, attempt: u8) -> Result<(), Fail>
     ensures { shelf.new.p ≡ shelf.old.p }
 {
     room(shelf)?;
-    know_splits(shelf);
     if wins(shelf, attempt) || shelf.is_revoked(0, attempt) {
         return Err(Fail::new("the attempt may not be revoked"));
     }
@@ -219,10 +216,7 @@ fn text_due(shelf: &mut Shelf<Sample>, alloc: Global) -> Result<Text, Fail>
 }
 
 // The split's winner, the records of an attempt, and whether it was revoked.
-fn seen(shelf: &Shelf<Sample>, attempt: u8) -> (Option<u8>, u32, bool)
-    requires { attempt < 2 }
-{
-    know_splits(shelf);
+fn seen(shelf: &Shelf<Sample>, attempt: u8) -> (Option<u8>, u32, bool) {
     (
         shelf.winner(0),
         shelf.upto(0, attempt),

@@ -162,6 +162,7 @@ fn notices_altered_bytes(rt: HostRuntime) -> Result<(), Fail> {
             assert_eq!(rt; kept, KEPT);
             assert_eq!(rt; found, FOUND);
         }
+        Err(FetchFault::NoMemory) => return Err(Fail::from("no memory")),
         _ => return Err(Fail::from("the bytes are altered")),
     }
     Ok(())
@@ -188,6 +189,7 @@ fn names_the_field_of_another_text(rt: HostRuntime) -> Result<(), Fail> {
         let (bytes, _rest) = FIRST.split_at(len.min(45));
         match opened(rt.alloc(), at, p, &digest_of(bytes), bytes) {
             Err(FetchFault::Collides { place, .. }) => assert_eq!(rt; place, differs),
+            Err(FetchFault::NoMemory) => return Err(Fail::from("no memory")),
             _ => return Err(Fail::from("the bytes are another text")),
         }
     }

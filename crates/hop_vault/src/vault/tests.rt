@@ -78,6 +78,7 @@ fn notices_the_text_of_another_range(rt: HostRuntime) -> Result<(), Fail> {
             assert_eq!(rt; at, part);
             assert_eq!(rt; place, 12);
         }
+        Err(FetchFault::NoMemory) => return Err(Fail::from("no memory")),
         _ => return Err(Fail::from("the text is of another range")),
     }
     Ok(())
