@@ -30,6 +30,7 @@ use Rattle.hop_shelf.specs.Parts.{part_cmp, is_of, parts_of, IsChain}
 use Rattle.hop_shelf.specs.Sound.{AreOwned, IsKept, IsConsecutive, RunsFit}
 use Rattle.hop_shelf.specs.Covered.{IsOfRanges, declares}
 use Rattle.hop_shelf.proofs.CoveredParts.{covered_by, covers_owner, covered_runs, whole_parts}
+use Rattle.hop_shelf.proofs.RecordLaws.{flat_same_in}
 use Rattle.hop_shelf.proofs.Chains.{part_exact, chain_backward}
 use Rattle.hop_shelf.proofs.SoundLaws.{same_yes, same_means}
 use Rattle.hop_shelf.proofs.Together.{parts_at, declared_means, covered_pairs, runs_together, stands_permuted, flat_same}
@@ -239,13 +240,6 @@ covers_same rules p h tentative n legal e Committed = refl
 covers_same rules p h tentative n legal e (Attempt i a) = covers_same_by rules p h tentative n i a legal e (cases_lt i n)
 
 -- ---- what a cut declares, and what the history covers
-
-flat_same_in : (f g : ℕ → List Part) (a n : ℕ) → ((i : ℕ) → a ≤ i → i < a + n → f i ≡ g i) → flat_map f (range_with_len a n) ≡ flat_map g (range_with_len a n)
-flat_same_in f g a zero h = refl
-flat_same_in f g a (suc n) h =
-    let here : f a ≡ g a = h a (omega arith) (omega arith) in
-    let rest = flat_same_in f g (a + 1) n (λ i l m. h i (omega arith) (omega arith)) in
-    cc
 
 pub covered_same : (tentative : Bool) (lens : List ℕ) (h : List Event) → covered_parts (map (declared tentative h) (range_with_len 0 (length lens))) ≡ covered_by tentative lens h
 covered_same tentative lens h =

@@ -6,7 +6,6 @@ pub mod KnownLaws
 pub mod LookupLaws
 pub mod MarkLaws
 pub mod OwnerLaws
-pub mod Places
 pub mod RecordLaws
 pub mod SampleLaws
 pub mod ShelfLaws

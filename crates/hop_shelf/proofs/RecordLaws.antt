@@ -50,7 +50,7 @@ take_own zero xs = refl
 take_own (suc k) [] = refl
 take_own (suc k) (x ∷ xs) = ap (λ ys. x ∷ ys) (take_own k xs)
 
-flat_same_in : {X : Type 0} (f g : ℕ → List X) (a k : ℕ) → ((i : ℕ) → a ≤ i → i < a + k → f i ≡ g i) → flat_map f (range_with_len a k) ≡ flat_map g (range_with_len a k)
+pub flat_same_in : {X : Type 0} (f g : ℕ → List X) (a k : ℕ) → ((i : ℕ) → a ≤ i → i < a + k → f i ≡ g i) → flat_map f (range_with_len a k) ≡ flat_map g (range_with_len a k)
 flat_same_in f g a zero h = refl
 flat_same_in f g a (suc k) h =
     let here : f a ≡ g a = h a (omega arith) (omega arith) in

@@ -13,7 +13,7 @@ use Rattle.hop_base.specs.Order.{IsValidPair}
 use Rattle.hop_base.specs.Sorted.{ord, insert_in_order}
 use Rattle.hop_base.proofs.Sorted.{SameItems, ord_same}
 use Rattle.hop_laws.specs.Stands.{StandsFor}
-use Rattle.hop_laws.proofs.StandsLaws.{stands_sorted, stands_merged}
+use Rattle.hop_laws.proofs.StandsLaws.{stands_sorted, stands_merged, stands_through}
 use Rattle.hop_base.specs.declared.part.Part.{Part}
 use Rattle.hop_run.specs.Runs.{RunValue}
 use Rattle.hop_cut.specs.Covered.{StandTogether, part_declared}
@@ -34,11 +34,8 @@ use Rattle.std.proofs.Common.{take, get_or, slice_index}
 use Rattle.hop_event.specs.Legal.{IsWon}
 use Rattle.std.proofs.lemmas.Bool.Decides.{nat_tests}
 
-pub stands_trans : (reduce : List ℕ → List Val → List ℕ) (a b c : List Pair) → StandsFor reduce a b → StandsFor reduce b c → StandsFor reduce a c
-stands_trans reduce a b c h k = record { same_keys = h.same_keys ∙ k.same_keys; same_reduce = λ key ws v. h.same_reduce key ws v ∙ k.same_reduce key ws v }
-
 pub stands_permuted : (reduce : List ℕ → List Val → List ℕ) (sheet ps qs : List Pair) → IsPermutation ps qs → StandsFor reduce sheet ps → StandsFor reduce sheet qs
-stands_permuted reduce sheet ps qs p h = stands_trans reduce sheet ps qs h (stands_sorted reduce qs ps (IsPermutation-sym ps qs p))
+stands_permuted reduce sheet ps qs p h = stands_through reduce sheet ps qs h (stands_sorted reduce qs ps (IsPermutation-sym ps qs p))
 
 stands_nothing : (reduce : List ℕ → List Val → List ℕ) → StandsFor reduce [] []
 stands_nothing reduce = stands_sorted reduce [] [] (IsPermutation-refl [])

@@ -111,7 +111,7 @@ long_again n rest lt = number_again w64 (2 ^ 64) wide64 n rest lt
 
 -- ---- numbers in a range
 
-both_true : (a b : Bool) → (a && b) ≡ true → (a ≡ true) × (b ≡ true)
+pub both_true : (a b : Bool) → (a && b) ≡ true → (a ≡ true) × (b ≡ true)
 both_true true b h = (refl, h)
 both_true false b h = absurd cc
 

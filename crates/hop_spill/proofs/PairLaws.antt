@@ -1,6 +1,6 @@
 -- Pairs that are read are the pairs that were written, in order and of their partition, and what was
 -- written is read again.
-use Rattle.std.proofs.Common.{◌≡◌, ℕ, zero, suc, ◌^◌, ◌<◌, ◌&&◌, not, Bool, true, false, cond, List, [], ◌∷◌, ◌++◌, length, Option, Some, None, Ok, Err, refl, ap, subst, ◌∙◌, append_assoc}
+use Rattle.std.proofs.Common.{◌≡◌, ℕ, zero, suc, ◌^◌, ◌<◌, not, Bool, true, false, cond, List, [], ◌∷◌, ◌++◌, length, Option, Some, None, Ok, Err, refl, ap, subst, ◌∙◌, append_assoc}
 use Rattle.std.specs.Int.{w64}
 use Rattle.std.specs.List.{flat_map, AllByRecursion}
 use Rattle.std.specs.Ordering.{is_gt}
@@ -16,7 +16,7 @@ use Rattle.hop_base.proofs.Sorted.{IsUptoAll, IsAscending, IsAscending-IsSorted,
 use Rattle.hop_laws.specs.Partition.{partition_of}
 use Rattle.hop_spill.specs.Spelling.{counted, long, pair_text, IsSheetOf}
 use Rattle.hop_spill.specs.Reading.{◌>>=◌, number_at, blob_at, is_smaller, may_follow, pair_of, pair_at, pairs_at}
-use Rattle.hop_spill.proofs.FieldLaws.{IsBytes, bind_ok, passed_ok, ok_is, Takes, Takes-nothing, Takes-then, long_takes, long_again, blob_takes, blob_again}
+use Rattle.hop_spill.proofs.FieldLaws.{both_true, IsBytes, bind_ok, passed_ok, ok_is, Takes, Takes-nothing, Takes-then, long_takes, long_again, blob_takes, blob_again}
 
 -- ---- one pair
 
@@ -78,10 +78,6 @@ pairs_again p r before (x ∷ xs) rest h =
     rw (regrouped, first, others) refl
 
 -- ---- pairs in a row are the sheet of their partition
-
-both_true : (a b : Bool) → (a && b) ≡ true → (a ≡ true) × (b ≡ true)
-both_true true b h = (refl, h)
-both_true false b h = absurd cc
 
 not_true : (b : Bool) → not b ≡ true → b ≡ false
 not_true true h = absurd cc

@@ -10,13 +10,14 @@ use Rattle.std.specs.Cmp.{tied_itself}
 use Rattle.std.specs.Cmp.Lexicographic.{slice_cmp}
 use Rattle.std.proofs.lemmas.Cmp.{nat_list_cmp_total}
 use Rattle.std.proofs.lemmas.Map.Lookups.{exact_bytes}
-use Rattle.std.proofs.lemmas.Bool.{false≢true, eqb-true}
+use Rattle.std.proofs.lemmas.Bool.{eqb-true}
 use Rattle.std.proofs.lemmas.List.{length_push, get_or_push}
 use Rattle.std.proofs.lemmas.Option.{slice_get-get_or}
 use Rattle.hop_base.specs.Files.{Files}
 use Rattle.hop_ports.specs.Views.{FolderView, with_file}
 use Rattle.hop_spill.specs.declared.spill.Spill.{Spill}
 use Rattle.hop_spill.specs.Spelling.{IsSpill, spill_text}
+use Rattle.hop_spill.proofs.FieldLaws.{both_true}
 use Rattle.hop_vault.specs.declared.kept.Kept.{Kept}
 use Rattle.hop_vault.specs.declared.kept.KeepFault.{KeepFault}
 use Rattle.hop_vault.specs.declared.kept.KeepFault.TheVariants as fault
@@ -116,10 +117,6 @@ sound_put old new before after spill is next h same e = record {
         let below : (i ≡ spill.split) → (a ≡ spill.attempt) → end_of (row_of before i a) ≤ spill.from = λ p q. let c : kept_end before i a ≡ kept_end before spill.split spill.attempt = rw (p, q) refl in omega (arith, c, next) in
         subst (λ (row : List Kept). AreStored (map.insert files (name_of spill.split spill.attempt spill.from) (spill_text spill)) i a row) (sym (same i a))
         (stored_put files spill.split spill.attempt spill.from (spill_text spill) (omega (arith, is.split)) (omega (arith, is.attempt)) (omega (arith, is.from)) i a 0 (row_of before i a) (end_of (row_of before i a)) (h.chain i a) below (k i a))
-
-both_true : (a b : Bool) → (a && b) ≡ true → (a ≡ true) × (b ≡ true)
-both_true true b h = (refl, h)
-both_true false b h = absurd (false≢true h)
 
 -- a spill is kept: its attempt has one more, and its text is put under its name
 pub sound_kept : (old new : FolderView) (before after : Table) (spill : Spill) (kept : Kept) → IsSpill spill → spill.from ≡ kept_end before spill.split spill.attempt → IsSound old before → IsKept spill kept

@@ -1,5 +1,5 @@
 use Rattle.hop_shelf.specs.Kept.{committed_by}
-use Rattle.hop_shelf.proofs.Places.{mapped_more}
+use Rattle.hop_cover.proofs.Places.{mapped_more}
 use Rattle.hop_shelf.proofs.kept.commit.Goals as goal
 
 pub loop-one-preserved : goal.loop-one-preserved
