@@ -1,4 +1,7 @@
 pub mod Best
+pub mod Fronts
+pub mod Numerals
 pub mod OrderLaws
 pub mod RangesLaws
 pub mod Sorted
+pub mod Truth

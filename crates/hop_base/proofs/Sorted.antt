@@ -12,11 +12,7 @@ use Rattle.std.proofs.lemmas.List.Sorted.{sum_by-IsPermutation}
 use Rattle.std.proofs.lemmas.Bool.{true≢false, false≢true}
 use Rattle.std.proofs.lemmas.Map.Lookups.{CmpEqualImpliesEq}
 use Rattle.hop_base.specs.Sorted.{insert_in_order, ord}
-
-eq_of : (o : Ordering) → is_eq o ≡ true → o ≡ Equal
-eq_of Less e = absurd (false≢true e)
-eq_of Equal e = refl
-eq_of Greater e = absurd (false≢true e)
+use Rattle.hop_base.proofs.Truth.{eq_of}
 
 -- not above and not below
 level : (o p : Ordering) → o ≡ ordering_reverse p → is_gt o ≡ false → is_gt p ≡ false → o ≡ Equal

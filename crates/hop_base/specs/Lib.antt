@@ -1,5 +1,6 @@
 pub mod Causes
 pub mod Files
+pub mod Fronts
 pub mod Meaning
 pub mod Order
 pub mod Ranges

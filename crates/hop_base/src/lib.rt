@@ -12,8 +12,6 @@ pub mod part;
 pub mod run_name;
 pub mod settings;
 pub mod sheet;
-#[cfg(test)]
-mod tests;
 pub mod value;
 pub mod words;
 

@@ -24,6 +24,18 @@ pub const MAX_EMITTED: usize = 65_536;
 /// Splits of an input.
 pub const MAX_SPLITS: u32 = 1_024;
 
+/// Records of a split, and of an input: each has a byte at least.
+pub const MAX_RECORDS: u32 = 16_777_216;
+
+/// Attempts of a split that may be begun.
+pub const MAX_ATTEMPTS: u8 = 16;
+
+/// Reducers of a run, and so partitions.
+pub const MAX_REDUCERS: u8 = 8;
+
+/// Map workers of a run.
+pub const MAX_WORKERS: u8 = 8;
+
 /// Spills of one attempt of each split, summed over the splits.
 pub const MAX_SPILLS: u64 = 65_536;
 

@@ -1,5 +1,5 @@
 //! Sheets: pairs in order.
-ghost use Rattle.std.specs.Prelude.{◌≡◌, ◌++◌, IfOk, OnOk, IsPermutation, IsSorted};
+ghost use Rattle.std.specs.Prelude.{◌≡◌, IfOk, IsPermutation, IsSorted};
 ghost use Rattle.hop_base.specs.Order.{IsSheet, pair_cmp};
 ghost use Rattle.hop_base.specs.Sorted.{ord};
 
@@ -69,17 +69,7 @@ impl Sheet {
         ensures { IfOk result (λ sheet. sheet ≡ self.now) }
     {
         let mut pairs = Vec::with_capacity(*self.pairs.allocator(), self.pairs.len())?;
-        copy_pairs(&self.pairs, &mut pairs)?;
+        Pair::copy_all(&self.pairs, &mut pairs)?;
         Ok(Sheet { pairs })
     }
-}
-
-// Puts copies of the pairs behind those that are there.
-fn copy_pairs(pairs: &[Pair], to: &mut Vec<Pair>) -> Result<(), NoMemory>
-    ensures { OnOk result (to.new.items ≡ to.old.items ++ pairs.now) }
-{
-    for pair in pairs {
-        to.push(pair.copy()?)?;
-    }
-    Ok(())
 }

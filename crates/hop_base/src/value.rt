@@ -1,5 +1,5 @@
 //! Values and pairs, in their orders.
-ghost use Rattle.std.specs.Prelude.{◌≡◌, All, IfOk};
+ghost use Rattle.std.specs.Prelude.{◌≡◌, ◌++◌, All, IfOk, OnOk};
 ghost use Rattle.hop_base.specs.Order.{IsValid, IsValidPair};
 
 use crate::blob::Blob;
@@ -46,6 +46,16 @@ impl Pair {
         let key = self.key.copy()?;
         let val = self.val.copy()?;
         Ok(Pair { key, val })
+    }
+
+    /// Puts copies of the pairs behind those that are there. After `NoMemory` some of them may stand there.
+    pub fn copy_all(pairs: &[Pair], to: &mut Vec<Pair>) -> Result<(), NoMemory>
+        ensures { OnOk result (to.new.items ≡ to.old.items ++ pairs.now) }
+    {
+        for pair in pairs {
+            to.push(pair.copy()?)?;
+        }
+        Ok(())
     }
 
     /// A pair is within the limits. It does nothing: proofs learn it so.

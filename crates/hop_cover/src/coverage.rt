@@ -216,6 +216,3 @@ impl Coverage {
         self.total = 0;
     }
 }
-
-#[cfg(test)]
-mod tests;

@@ -8,7 +8,8 @@ use Rattle.std.proofs.lemmas.List.Elements.{All-from_recursion, All-from_get_or,
 use Rattle.std.proofs.lemmas.List.Folds.{list_all-append}
 use Rattle.hop_cut.specs.declared.head.SplitLine.{SplitLine}
 use Rattle.hop_cut.specs.Snapshot.{Header, IsHeader, header_lines, IsSplit, format_line, job_line, mark_line, reducer_line, progress_line, kind_words, split_words, split_line, split_lines, last_line, text_of, IsDue, IsFirstNotDue}
-use Rattle.hop_cut.proofs.NumberLaws.{decimal_digits, first_passes, rest_passes, front_unique}
+use Rattle.hop_base.proofs.Fronts.{first_passes, rest_passes, front_unique}
+use Rattle.hop_cut.proofs.NumberLaws.{word_digits}
 
 -- not a line feed
 abbrev is_inner : ℕ → Bool
@@ -29,7 +30,7 @@ digits_line [] h = refl
 digits_line (d ∷ ds) h = ap (λ b. b && list_all is_inner ds) (digit_inner d (first_passes is_ascii_digit d ds h)) ∙ digits_line ds (rest_passes is_ascii_digit d ds h)
 
 decimal_line : (n : ℕ) → n < 2 ^ 32 → IsLine (decimal n)
-decimal_line n h = digits_line (decimal n) (decimal_digits n h)
+decimal_line n h = digits_line (decimal n) (word_digits n h)
 
 name_inner : (b : ℕ) → b ≢ 10 → is_inner b ≡ true
 name_inner b h = grind (arith, nat_tests)

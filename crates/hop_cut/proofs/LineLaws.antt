@@ -3,7 +3,8 @@ use Rattle.std.proofs.Common.{◌≡◌, ℕ, ◌<◌, ◌^◌, Bool, true, fals
 use Rattle.std.specs.Prelude.{codes}
 use Rattle.std.specs.Char.{is_ascii_digit}
 use Rattle.hop_cut.specs.declared.head.SplitLine.{SplitLine}
-use Rattle.hop_cut.specs.Numbers.{StopsAt, IsNumbered}
+use Rattle.hop_base.specs.Fronts.{StopsAt}
+use Rattle.hop_cut.specs.Numbers.{IsNumbered}
 use Rattle.hop_cut.specs.Snapshot.{kind_words, split_words}
 use Rattle.hop_cut.specs.Lines.{IsNumberLine, IsReducerLine, IsWordsOf, IsSplitText}
 use Rattle.hop_cut.proofs.NumberLaws.{numbered_unique}

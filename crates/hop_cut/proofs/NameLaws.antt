@@ -7,9 +7,10 @@ use Rattle.std.proofs.lemmas.Bool.Decides.{nat_tests}
 use Rattle.std.proofs.lemmas.List.Elements.{All-from_recursion, recursion_from_All}
 use Rattle.std.proofs.lemmas.List.{append_cancel_left, take-append-drop}
 use Rattle.hop_laws.specs.Laws.{IsName}
-use Rattle.hop_cut.specs.Numbers.{StopsAt, is_name_byte}
+use Rattle.hop_base.specs.Fronts.{StopsAt}
+use Rattle.hop_cut.specs.Numbers.{is_name_byte}
 use Rattle.hop_cut.specs.Lines.{IsJobLine}
-use Rattle.hop_cut.proofs.NumberLaws.{front_unique, first_passes, rest_passes}
+use Rattle.hop_base.proofs.Fronts.{front_unique, first_passes, rest_passes}
 
 name_byte : (b : ℕ) → b ≢ 32 → b ≢ 10 → is_name_byte b ≡ true
 name_byte b h k = grind (arith, nat_tests)

@@ -1,5 +1,5 @@
 -- A number at the beginning of a text is determined.
-use Rattle.std.proofs.Common.{◌≡◌, ℕ, ◌+◌, ◌<◌, ◌^◌, ◌≤◌, ◌&&◌, get_or, Bool, true, false, List, [], ◌∷◌, ◌++◌, rules, length, take, drop, refl, sym, ap, ◌∙◌, subst, arith, decimal, eqb}
+use Rattle.std.proofs.Common.{◌≡◌, ℕ, ◌+◌, ◌<◌, ◌^◌, ◌≤◌, ◌&&◌, get_or, Bool, true, false, List, [], ◌∷◌, ◌++◌, length, take, drop, refl, sym, ap, ◌∙◌, subst, arith, decimal, eqb}
 use Rattle.std.proofs.Math.Seq.{drop-cons, take-append_seam}
 use Rattle.std.proofs.lemmas.List.{drop_all, take_more, append_cancel_left, take-append-drop}
 use Rattle.std.proofs.lemmas.Bool.{eq-eqb}
@@ -7,36 +7,23 @@ use Rattle.std.specs.Cmp.Lexicographic.{pointwise}
 use Rattle.std.specs.Char.{is_ascii_digit}
 use Rattle.std.specs.Str.{IsUtf8}
 use Rattle.std.specs.List.{list_all}
-use Rattle.std.proofs.lemmas.Bool.{true≢false, false≢true}
-use Rattle.std.proofs.lemmas.Str.Parse.{IsNumeralModel, numerals_by_value}
-use Rattle.std.specs.Str.Parse.{digits_value}
-use Rattle.std.proofs.lemmas.Fmt.{digits_decimal, decimal_injective, IsAscii-decimal}
+use Rattle.std.proofs.lemmas.Fmt.{decimal_injective, IsAscii-decimal}
 use Rattle.std.proofs.lemmas.Str.{IsUtf8-from_ascii}
-use Rattle.hop_cut.specs.Numbers.{StopsAt, IsNumbered}
+use Rattle.hop_base.specs.Fronts.{StopsAt}
+use Rattle.hop_base.proofs.Fronts.{first_passes, rest_passes, front_unique}
+use Rattle.hop_base.proofs.Numerals.{decimal_digits}
+use Rattle.hop_cut.specs.Numbers.{IsNumbered}
 
-own : IsNumeralModel (λ ds. list_all is_ascii_digit ds ≡ true) (digits_value 10)
-own = numerals_by_value (λ ds. list_all is_ascii_digit ds ≡ true) (search rules)
-
-pub decimal_digits : (n : ℕ) → n < 2 ^ 32 → list_all is_ascii_digit (decimal n) ≡ true
-decimal_digits n h = digits_decimal own n (omega arith)
+pub word_digits : (n : ℕ) → n < 2 ^ 32 → list_all is_ascii_digit (decimal n) ≡ true
+word_digits n h = decimal_digits n (omega arith)
 
 pub decimal_text : (n : ℕ) → n < 2 ^ 32 → IsUtf8 (decimal n)
 decimal_text n h = IsUtf8-from_ascii (decimal n) (IsAscii-decimal n (omega arith))
 
-both_true : (a b : Bool) → (a && b) ≡ true → (a ≡ true) × (b ≡ true)
-both_true true b h = (refl, h)
-both_true false b h = absurd (false≢true h)
-
 module _ (test : ℕ → Bool) where
-  pub first_passes : (c : ℕ) (ds : List ℕ) → list_all test (c ∷ ds) ≡ true → test c ≡ true
-  first_passes c ds h = (both_true (test c) (list_all test ds) h).0
-
-  pub rest_passes : (c : ℕ) (ds : List ℕ) → list_all test (c ∷ ds) ≡ true → list_all test ds ≡ true
-  rest_passes c ds h = (both_true (test c) (list_all test ds) h).1
-
   all_more : (ds : List ℕ) (c : ℕ) → list_all test ds ≡ true → test c ≡ true → list_all test (ds ++ c ∷ []) ≡ true
   all_more [] c h k = ap (λ b. b && true) k
-  all_more (d ∷ ds) c h k = ap (λ b. b && list_all test (ds ++ c ∷ [])) (first_passes d ds h) ∙ all_more ds c (rest_passes d ds h) k
+  all_more (d ∷ ds) c h k = ap (λ b. b && list_all test (ds ++ c ∷ [])) (first_passes test d ds h) ∙ all_more ds c (rest_passes test d ds h) k
 
   -- one more byte that passes
   pub front_step : (text : List ℕ) (n c : ℕ) → n < length text → c ≡ get_or text n 0 → list_all test (take n text) ≡ true → test c ≡ true → list_all test (take (n + 1) text) ≡ true
@@ -49,30 +36,17 @@ module _ (test : ℕ → Bool) where
   pub front_all : (text : List ℕ) (n : ℕ) → length text ≤ n → StopsAt test (drop n text)
   front_all text n l = rw (drop_all n text l) tt
 
-  -- the bytes that a text begins with and that pass, and what follows them, are determined
-  pub front_unique : (ds r es s : List ℕ) → list_all test ds ≡ true → StopsAt test r → list_all test es ≡ true → StopsAt test s → ds ++ r ≡ es ++ s → (ds ≡ es) × (r ≡ s)
-  front_unique [] r [] s h k i j e = (refl, e)
-  front_unique [] [] (c ∷ es) s h k i j e = absurd (cc)
-  front_unique [] (d ∷ r) (c ∷ es) s h k i j e = let same : d ≡ c = cc in absurd (true≢false (sym (first_passes c es i) ∙ subst (λ x. test x ≡ false) same k))
-  front_unique (c ∷ ds) r [] [] h k i j e = absurd (cc)
-  front_unique (c ∷ ds) r [] (d ∷ s) h k i j e = let same : d ≡ c = cc in absurd (true≢false (sym (first_passes c ds h) ∙ subst (λ x. test x ≡ false) same j))
-  front_unique (c ∷ ds) r (d ∷ es) s h k i j e =
-      let same : c ≡ d = cc in
-      let rest : ds ++ r ≡ es ++ s = cc in
-      let both = front_unique ds r es s (rest_passes c ds h) k (rest_passes d es i) j rest in
-      (cc, both.1)
-
 -- the digits of a numbered text are those of its number
 pub number_there : (piece text after : List ℕ) (k n : ℕ) (rest : List ℕ) → text ≡ piece ++ after → list_all is_ascii_digit (take k after) ≡ true → StopsAt is_ascii_digit (drop k after) → IsNumbered piece text n rest → take k after ≡ decimal n
 number_there piece text after k n rest e all ends h =
     let same : after ≡ decimal n ++ rest = append_cancel_left piece _ _ (sym e ∙ h.text_is) in
-    (front_unique is_ascii_digit (take k after) (drop k after) (decimal n) rest all ends (decimal_digits n h.small) h.ends (take-append-drop k after ∙ same)).0
+    (front_unique is_ascii_digit (take k after) (drop k after) (decimal n) rest all ends (word_digits n h.small) h.ends (take-append-drop k after ∙ same)).0
 
 -- the number behind a piece and what follows it are determined
 pub numbered_unique : (piece text : List ℕ) (n : ℕ) (r : List ℕ) (m : ℕ) (s : List ℕ) → IsNumbered piece text n r → IsNumbered piece text m s → (n ≡ m) × (r ≡ s)
 numbered_unique piece text n r m s h k =
     let same : decimal n ++ r ≡ decimal m ++ s = append_cancel_left piece _ _ (sym h.text_is ∙ k.text_is) in
-    let both = front_unique is_ascii_digit (decimal n) r (decimal m) s (decimal_digits n h.small) h.ends (decimal_digits m k.small) k.ends same in
+    let both = front_unique is_ascii_digit (decimal n) r (decimal m) s (word_digits n h.small) h.ends (word_digits m k.small) k.ends same in
     (decimal_injective n m (let b : n < 2 ^ 64 = omega (arith, h.small) in b) (let b : m < 2 ^ 64 = omega (arith, k.small) in b) both.0, both.1)
 
 -- the piece that a text begins with

@@ -1,11 +1,7 @@
 -- Numbers and names at the beginning of a text.
-use Rattle.std.specs.Prelude.{◌≡◌, ℕ, ◌<◌, ◌^◌, ◌==◌, ◌||◌, not, Bool, false, List, [], ◌∷◌, ◌++◌, decimal}
+use Rattle.std.specs.Prelude.{◌≡◌, ℕ, ◌<◌, ◌^◌, ◌==◌, ◌||◌, not, Bool, List, ◌++◌, decimal}
 use Rattle.std.specs.Char.{is_ascii_digit}
-
--- the text doesn't begin with a byte that passes the test
-abbrev pub StopsAt : (ℕ → Bool) → List ℕ → Type 0
-StopsAt test [] = Unit {0}
-StopsAt test (c ∷ cs) = test c ≡ false
+use Rattle.hop_base.specs.Fronts.{StopsAt}
 
 -- a byte of a name
 abbrev pub is_name_byte : ℕ → Bool

@@ -1,5 +1,5 @@
 //! Cuts, and the texts of their snapshots.
-ghost use Rattle.std.specs.Prelude.{◌≡◌, ◌<◌, ◌≤◌, ◌++◌, ℕ, List, IfOk, OnOk, IsPermutation, decimal, length};
+ghost use Rattle.std.specs.Prelude.{◌≡◌, ◌<◌, ◌≤◌, ℕ, List, IfOk, IsPermutation, decimal, length};
 ghost use Rattle.std.specs.List.{flat_map};
 ghost use Rattle.hop_base.specs.declared.value.Pair.{Pair};
 ghost use Rattle.hop_base.specs.Order.{IsSheet};
@@ -104,17 +104,7 @@ fn whole_sheet(alloc: Global, runs: &[Run]) -> Result<Sheet, NoMemory>
 {
     let mut pairs = Vec::new(alloc);
     for run in runs {
-        push_pairs(&mut pairs, run.sheet().as_slice())?;
+        Pair::copy_all(run.sheet().as_slice(), &mut pairs)?;
     }
     Ok(Sheet::from_pairs(pairs))
-}
-
-// Puts copies of the pairs behind those that are there.
-fn push_pairs(to: &mut Vec<Pair>, pairs: &[Pair]) -> Result<(), NoMemory>
-    ensures { OnOk result (to.new.items ≡ to.old.items ++ pairs.now) }
-{
-    for pair in pairs {
-        to.push(pair.copy()?)?;
-    }
-    Ok(())
 }

@@ -5,8 +5,6 @@ pub mod cut;
 pub mod head;
 mod lines;
 mod numbers;
-#[cfg(test)]
-mod tests;
 mod texts;
 
 pub use cut::{Cut, Cuts, cut_text};

@@ -5,6 +5,7 @@ ghost use Rattle.hop_cut.specs.declared.head.SplitLine.{SplitLine};
 
 use crate::head::SplitLine;
 use crate::numbers::{after, name_len, numbered};
+use hop_base::limits::{MAX_ATTEMPTS, MAX_RECORDS, MAX_REDUCERS};
 use hop_event::Declared;
 
 /// What follows the line of the job's name.
@@ -52,7 +53,7 @@ pub(crate) fn reducer_line(text: &[u8]) -> Option<(u32, u32, &[u8])>
     let Some((p, rest)) = numbered(b"reducer ", text) else {
         return None;
     };
-    let Some((r, rest)) = number_line(b" of ", 1, 8, rest) else {
+    let Some((r, rest)) = number_line(b" of ", 1, MAX_REDUCERS as u32, rest) else {
         return None;
     };
     if p < r { Some((p, r, rest)) } else { None }
@@ -90,7 +91,7 @@ fn split_words(text: &[u8]) -> Option<(SplitLine, &[u8])>
     let Some((len, text)) = numbered(b" of ", text) else {
         return None;
     };
-    if attempt > 15 || records == 0 || records > len || len > 16_777_216 {
+    if attempt >= MAX_ATTEMPTS as u32 || records == 0 || records > len || len > MAX_RECORDS {
         return None;
     }
     let Some((committed, rest)) = kind_words(text) else {

@@ -2,7 +2,8 @@
 ghost use Rattle.std.specs.Prelude.{◌≡◌, ◌<◌, ◌≤◌, ◌^◌, ◌++◌, ℕ, List, length, take, drop, true, MatchOption, decimal};
 ghost use Rattle.std.specs.Char.{is_ascii_digit};
 ghost use Rattle.std.specs.List.{list_all};
-ghost use Rattle.hop_cut.specs.Numbers.{StopsAt, IsNumbered, is_name_byte};
+ghost use Rattle.hop_base.specs.Fronts.{StopsAt};
+ghost use Rattle.hop_cut.specs.Numbers.{IsNumbered, is_name_byte};
 
 use itoa::Buffer;
 

@@ -50,8 +50,8 @@ impl Gathered {
         Ok(())
     }
 
-    // Combines the pairs if there are many.
-    fn relieve<J: Job>(&mut self, alloc: Global, job: &J) -> Result<(), NoMemory>
+    // Combines the pairs if they have doubled since the last time.
+    fn combine_if_grown<J: Job>(&mut self, alloc: Global, job: &J) -> Result<(), NoMemory>
         ensures { OnOk result (KeepsStanding (J.meaning job.now).reduced self.old self.new) }
     {
         if self.pairs.len() >= self.limit {
@@ -110,7 +110,7 @@ pub(crate) fn gather<J: Job>(
 {
     let pairs = job.map(alloc, line)?;
     scatter(lists, pairs)?;
-    relieve_all(alloc, job, lists)?;
+    combine_grown(alloc, job, lists)?;
     Ok(())
 }
 
@@ -152,11 +152,11 @@ fn scatter(lists: &mut Vec<Gathered>, pairs: Vec<Pair>) -> Result<(), NoMemory>
 }
 
 // Combines the pairs of each partition that has many.
-fn relieve_all<J: Job>(alloc: Global, job: &J, lists: &mut Vec<Gathered>) -> Result<(), NoMemory>
+fn combine_grown<J: Job>(alloc: Global, job: &J, lists: &mut Vec<Gathered>) -> Result<(), NoMemory>
     ensures { OnOk result (AllKeepStanding (J.meaning job.now).reduced lists.old.items lists.new.items) }
 {
     for list in lists.iter_mut() {
-        list.relieve(alloc, job)?;
+        list.combine_if_grown(alloc, job)?;
     }
     Ok(())
 }

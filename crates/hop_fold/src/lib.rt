@@ -4,7 +4,5 @@
 pub mod blocking;
 mod gathered;
 mod lines;
-#[cfg(test)]
-mod tests;
 
 pub use blocking::{block, block_lines};

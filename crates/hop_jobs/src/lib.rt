@@ -6,8 +6,6 @@ pub mod max;
 mod numbers;
 pub mod record;
 pub mod sum;
-#[cfg(test)]
-mod tests;
 pub mod top;
 pub mod wc;
 

@@ -5,8 +5,6 @@
 pub mod groups;
 pub mod job;
 pub mod partitions;
-#[cfg(test)]
-mod tests;
 
 pub use groups::{combine_sheet, reduce_sheet};
 pub use job::Job;

@@ -2,7 +2,5 @@
 #![tactic(auto)]
 
 pub mod merging;
-#[cfg(test)]
-mod tests;
 
 pub use merging::merge_all;

@@ -19,6 +19,3 @@ pub use gate::{Gate, OpenGate, Point};
 pub use memory::MemFolder;
 pub use sink::{SayFault, Sink};
 pub use sinks::{MemSink, StdSink};
-
-#[cfg(test)]
-mod tests;

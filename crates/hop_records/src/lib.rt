@@ -6,6 +6,3 @@ pub mod book;
 mod ends;
 
 pub use book::{Book, BookFault};
-
-#[cfg(test)]
-mod tests;

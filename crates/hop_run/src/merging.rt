@@ -1,5 +1,5 @@
 //! Merging pairs in order.
-ghost use Rattle.std.specs.Prelude.{◌≡◌, ◌≤◌, ◌++◌, length, drop, IfOk, OnOk, IsSorted};
+ghost use Rattle.std.specs.Prelude.{◌≡◌, ◌++◌, IfOk, IsSorted};
 ghost use Rattle.hop_base.specs.Order.{pair_cmp};
 ghost use Rattle.hop_base.specs.Sorted.{ord};
 
@@ -32,19 +32,9 @@ fn merge_pairs(alloc: Global, a: &[Pair], b: &[Pair]) -> Result<Vec<Pair>, NoMem
             i += 1;
         }
     }
-    copy_from(&mut pairs, a, i)?;
-    copy_from(&mut pairs, b, j)?;
+    let (_, rest) = a.split_at(i);
+    Pair::copy_all(rest, &mut pairs)?;
+    let (_, rest) = b.split_at(j);
+    Pair::copy_all(rest, &mut pairs)?;
     Ok(pairs)
-}
-
-// Appends copies of the pairs from one place on.
-fn copy_from(to: &mut Vec<Pair>, pairs: &[Pair], from: usize) -> Result<(), NoMemory>
-    requires { from ≤ length pairs.now }
-    ensures { OnOk result (to.new.items ≡ to.old.items ++ drop from pairs.now) }
-{
-    let (_, rest) = pairs.split_at(from);
-    for pair in rest {
-        to.push(pair.copy()?)?;
-    }
-    Ok(())
 }

@@ -1,5 +1,5 @@
 -- Restarts by partition.
-use Rattle.std.proofs.Common.{◌≡◌, ℕ, zero, suc, ◌+◌, ◌<◌, ◌≤◌, ◌⊎◌, inl, inr, Bool, true, false, ◌&&◌, cond, List, [], ◌∷◌, ◌++◌, length, get_or, map, refl, sym, ap, ◌∙◌, arith, append_assoc}
+use Rattle.std.proofs.Common.{◌≡◌, ℕ, zero, suc, ◌+◌, ◌<◌, ◌≤◌, ◌⊎◌, inl, inr, Bool, true, false, cond, List, [], ◌∷◌, ◌++◌, length, get_or, map, refl, sym, ap, ◌∙◌, arith, append_assoc}
 use Rattle.std.specs.Prelude.{◌==◌, nat_le, nat_lt, filter}
 use Rattle.std.specs.List.{list_all}
 use Rattle.std.specs.declared.cmp.Ordering.{Ordering}
@@ -10,6 +10,7 @@ use Rattle.std.proofs.lemmas.List.{append-nil}
 use Rattle.std.proofs.lemmas.List.Elements.{filter-append}
 use Rattle.hop_base.specs.Run.{RestartLine}
 use Rattle.hop_base.proofs.Sorted.{IsUptoAll, IsAscending}
+use Rattle.hop_base.proofs.Truth.{both_true}
 use Rattle.hop_script.specs.Script.{restart_cmp}
 use Rattle.hop_script.specs.Draft.{restart_line}
 use Rattle.hop_script.specs.Kept.{lines_at, lines_from}
@@ -55,10 +56,6 @@ none_of p x (y ∷ ys) upto low =
 three_ways : (a p : ℕ) → (a < p) ⊎ ((a ≡ p) ⊎ (p < a))
 three_ways a p = grind arith
 
-both_of : (a b : Bool) → (a && b) ≡ true → (a ≡ true) × (b ≡ true)
-both_of true b both = (refl, both)
-both_of false b both = cc
-
 -- the lines below the next partition, of lines in order
 pub filter_next : (p : ℕ) (ls : List RestartLine) → IsAscending restart_cmp ls → filter (is_below (p + 1)) ls ≡ filter (is_below p) ls ++ filter (is_of p) ls
 filter_next p [] order = refl
@@ -85,7 +82,7 @@ filter_next p (x ∷ xs) order = elim (three_ways x.partition p) [
 pub filter_all : (ls : List RestartLine) → list_all (λ (r : RestartLine). nat_le r.partition 7) ls ≡ true → filter (is_below 8) ls ≡ ls
 filter_all [] few = refl
 filter_all (x ∷ xs) few =
-    let parts = both_of (nat_le x.partition 7) (list_all (λ (r : RestartLine). nat_le r.partition 7) xs) few in
+    let parts = both_true (nat_le x.partition 7) (list_all (λ (r : RestartLine). nat_le r.partition 7) xs) few in
     let last : x.partition ≤ 7 = leb-true x.partition 7 parts.0 in
     let below : is_below 8 x ≡ true = lt-ltb x.partition 8 (omega arith) in
     rw below (ap (λ ls. x ∷ ls) (filter_all xs parts.1))

@@ -16,6 +16,3 @@ pub use line::Line;
 pub use script::Script;
 pub use turn::{Actors, Turn, TurnOf};
 pub use turns::Turns;
-
-#[cfg(test)]
-mod tests;

@@ -5,6 +5,7 @@ ghost use Rattle.hop_script.specs.Lines.{line_form, fail_form, restart_form, del
 
 use crate::number::number;
 use crate::text::{next_word, three_words, two_words};
+use hop_base::limits::{MAX_ATTEMPTS, MAX_RECORDS, MAX_REDUCERS, MAX_SPLITS, MAX_WORKERS};
 
 /// A line of a fault script. No two lines of a script name the same attempt, the same restart or the
 /// same worker.
@@ -43,9 +44,9 @@ fn fail_of(rest: &[u8]) -> Option<Line>
     ensures partition { IfSome result HasPartition }
 {
     let (split, attempt, at) = three_words(rest)?;
-    let split = number(0, 1_023, split)?;
-    let attempt = number(0, 15, attempt)? as u8;
-    let at = number(0, 16_777_216, at)?;
+    let split = number(0, MAX_SPLITS - 1, split)?;
+    let attempt = number(0, MAX_ATTEMPTS as u32 - 1, attempt)? as u8;
+    let at = number(0, MAX_RECORDS, at)?;
     Some(Line::Fail { split, attempt, at })
 }
 
@@ -55,7 +56,7 @@ fn restart_of(rest: &[u8]) -> Option<Line>
     ensures partition { IfSome result HasPartition }
 {
     let (partition, arrivals) = two_words(rest)?;
-    let partition = number(0, 7, partition)? as u8;
+    let partition = number(0, MAX_REDUCERS as u32 - 1, partition)? as u8;
     let arrivals = number(1, 1_000_000, arrivals)?;
     Some(Line::Restart {
         partition,
@@ -69,7 +70,7 @@ fn delay_of(rest: &[u8]) -> Option<Line>
     ensures partition { IfSome result HasPartition }
 {
     let (worker, turns) = two_words(rest)?;
-    let worker = number(0, 7, worker)? as u8;
+    let worker = number(0, MAX_WORKERS as u32 - 1, worker)? as u8;
     let turns = number(1, 10_000, turns)?;
     Some(Line::Delay { worker, turns })
 }

@@ -13,6 +13,7 @@ use crate::fault::LineFault;
 use crate::line::line_of;
 use crate::text::next_line;
 use hop_base::NoMemory;
+use hop_base::limits::MAX_REDUCERS;
 use std::alloc::Global;
 use std::collections::{BTreeMap, BTreeSet};
 use std::marker::Model;
@@ -157,8 +158,8 @@ fn arrivals_of(
 fn lists_of(alloc: Global, restarts: &BTreeSet<Restart>) -> Result<Vec<Vec<u32>>, NoMemory>
     ensures { (lines : List RestartLine) → HasRestarts restarts.now lines → IfOk result (λ lists. lines_from 0 (map (λ list. list.items) lists.items) ≡ ord restart_cmp lines) }
 {
-    let mut lists = Vec::with_capacity(alloc, 8)?;
-    for partition in 0..8 {
+    let mut lists = Vec::with_capacity(alloc, MAX_REDUCERS as usize)?;
+    for partition in 0..MAX_REDUCERS {
         lists.push(arrivals_of(alloc, restarts, partition)?)?;
     }
     Ok(lists)

@@ -7,11 +7,10 @@ use Rattle.std.proofs.lemmas.Bool.Decides.{nat_tests}
 use Rattle.std.proofs.lemmas.List.Elements.{filter-append, recursion_from_All}
 use Rattle.std.proofs.lemmas.List.{get_or_past}
 use Rattle.std.proofs.lemmas.List.Sums.{sum_by-cons}
-use Rattle.std.specs.declared.cmp.Ordering.{Ordering}
-use Rattle.std.specs.declared.cmp.Ordering.TheVariants.{Less, Equal, Greater}
 use Rattle.std.specs.Ordering.{is_eq}
 use Rattle.hop_base.specs.declared.value.Val.{Val}
 use Rattle.hop_base.specs.declared.value.Pair.{Pair}
+use Rattle.hop_base.proofs.Truth.{eq_of}
 use Rattle.hop_base.proofs.Sorted.{SameItems, count, count-append, count-ord, length-ord}
 use Rattle.hop_base.specs.declared.part.Part.{Part}
 use Rattle.hop_run.specs.Runs.{RunValue}
@@ -125,11 +124,6 @@ covered_run_parts tentative h (k ∷ kept) r u =
     covered_step tentative h k kept (covers_owner tentative h k.owner) refl (owner_parts tentative h k.run.parts k.owner (covers_owner tentative h k.owner) refl r.0.owned both.0) (covered_run_parts tentative h kept r.1 both.1)
 
 -- ---- and those are the parts of the declared attempts, split by split
-
-eq_of : (o : Ordering) → is_eq o ≡ true → o ≡ Equal
-eq_of Less e = absurd (false≢true e)
-eq_of Equal e = refl
-eq_of Greater e = absurd (false≢true e)
 
 count_filter_step : (p : Part → Bool) (x q : Part) (qs : List Part) (b e c : Bool) → p q ≡ b → is_eq (part_cmp x q) ≡ e → p x ≡ c → (e ≡ true → b ≡ c) → count part_cmp x (filter p qs) ≡ (if c then count part_cmp x qs else 0) → count part_cmp x (cond b (q ∷ filter p qs) (filter p qs)) ≡ (if c then ((if e then 1 else 0) + count part_cmp x qs) else 0)
 count_filter_step p x q qs true e true pq eq pc same ih = ap {B = ℕ} (λ (t : Bool). (if t then 1 else 0) + count part_cmp x (filter p qs)) eq ∙ ap {B = ℕ} (λ n. (if e then 1 else 0) + n) ih

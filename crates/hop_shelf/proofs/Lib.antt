@@ -7,7 +7,6 @@ pub mod LookupLaws
 pub mod MarkLaws
 pub mod OwnerLaws
 pub mod RecordLaws
-pub mod SampleLaws
 pub mod ShelfLaws
 pub mod SoundLaws
 pub mod Together

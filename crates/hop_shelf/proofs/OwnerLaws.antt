@@ -6,13 +6,10 @@ use Rattle.hop_shelf.specs.declared.kept.Owner.{Owner}
 use Rattle.hop_shelf.specs.declared.kept.Owner.TheVariants.{Committed, Attempt}
 use Rattle.hop_shelf.specs.Kept.{kept_at}
 use Rattle.hop_shelf.specs.contracts.kept.OwnerPartialEq.TheImpl.{eq-value}
+use Rattle.hop_base.proofs.Truth.{both_true}
 
 abbrev pub owner_eq : Owner → Owner → Bool
 owner_eq = eq-value.it
-
-both_true : (a b : Bool) → (a && b) ≡ true → (a ≡ true) × (b ≡ true)
-both_true true b h = (refl, h)
-both_true false b h = absurd (false≢true h)
 
 pub owner_same : (a b : Owner) → owner_eq a b ≡ true → a ≡ b
 owner_same Committed Committed h = refl

@@ -6,6 +6,5 @@ pub mod Journal
 pub mod Kept
 pub mod Names
 pub mod Parts
-pub mod Sample
 pub mod Sound
 pub mod Work

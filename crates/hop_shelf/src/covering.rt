@@ -1,5 +1,5 @@
 //! What a history covers, and the runs of it.
-ghost use Rattle.std.specs.Prelude.{◌≡◌, ◌++◌, length, map, filter, IfOk, OnOk};
+ghost use Rattle.std.specs.Prelude.{◌≡◌, length, map, filter, IfOk};
 ghost use Rattle.std.specs.List.{range_with_len, flat_map};
 ghost use Rattle.hop_event.specs.Coverage.{declared};
 ghost use Rattle.hop_shelf.specs.Covered.{covers_in};
@@ -52,20 +52,10 @@ pub(crate) fn pairs_of_all(
     let mut pairs = Vec::new(alloc);
     for one in kept {
         if covers(declarations, one.owner) {
-            push_pairs(&mut pairs, one.run.sheet().as_slice())?;
+            Pair::copy_all(one.run.sheet().as_slice(), &mut pairs)?;
         }
     }
     Ok(pairs)
-}
-
-// Puts copies of the pairs behind those that are there.
-fn push_pairs(to: &mut Vec<Pair>, pairs: &[Pair]) -> Result<(), NoMemory>
-    ensures { OnOk result (to.new.items ≡ to.old.items ++ pairs.now) }
-{
-    for pair in pairs {
-        to.push(pair.copy()?)?;
-    }
-    Ok(())
 }
 
 /// What each split declares.

@@ -8,6 +8,7 @@ ghost use Rattle.hop_shelf.specs.Journal.{marks_between, is_arrival, IsWinnerSma
 ghost use Rattle.hop_cover.specs.Table.{MayBeNoted};
 
 use hop_base::NoMemory;
+use hop_base::limits::MAX_ATTEMPTS;
 use hop_cover::{Coverage, Declared};
 use hop_event::{Event, History};
 use std::alloc::{AllocError, Global};
@@ -135,7 +136,7 @@ impl Journal {
         ensures there { result ≡ true → (i < length self.now.lens) × (attempt < 16) }
         ensures absent { result ≡ false → (length self.now.lens ≤ i) ⊎ (16 ≤ attempt) }
     {
-        i < self.splits() && attempt < 16
+        i < self.splits() && attempt < MAX_ATTEMPTS
     }
 
     /// The records that are there of an attempt.

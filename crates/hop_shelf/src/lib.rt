@@ -6,8 +6,6 @@ mod covering;
 mod journal;
 mod kept;
 pub mod shelf;
-#[cfg(test)]
-mod tests;
 pub mod work;
 
 pub use shelf::{Arrived, Installed, NotYet, Shelf};

@@ -5,6 +5,7 @@ use Rattle.std.specs.Int.{Width, w32, w64, byte_len, from_be_bytes, to_be_bytes}
 use Rattle.std.proofs.lemmas.Bool.{cases_lt, ltb-false, le-ltb, le-leb, leb-true}
 use Rattle.std.proofs.lemmas.List.{take_at, drop_at, take-append-drop, length-append, length-take, get_or-drop, get_or-take, get_or_past}
 use Rattle.std.proofs.lemmas.Nat.{be_bytes_4, be_bytes_8, from_be_bytes-to_be_bytes_4, from_be_bytes-to_be_bytes_8}
+use Rattle.hop_base.proofs.Truth.{both_true}
 use Rattle.hop_spill.specs.Spelling.{word, long, counted}
 use Rattle.hop_spill.specs.Reading.{◌>>=◌, number_at, word_within, blob_at}
 
@@ -110,10 +111,6 @@ unfolding long
 long_again n rest lt = number_again w64 (2 ^ 64) wide64 n rest lt
 
 -- ---- numbers in a range
-
-pub both_true : (a b : Bool) → (a && b) ≡ true → (a ≡ true) × (b ≡ true)
-both_true true b h = (refl, h)
-both_true false b h = absurd cc
 
 pub word_within_takes : (low high : ℕ) (bytes : List ℕ) (x : ℕ × List ℕ) → IsBytes bytes → word_within low high bytes ≡ Ok x → Takes bytes (word x.0) x.1 × (low ≤ x.0) × (x.0 ≤ high)
 unfolding word_within

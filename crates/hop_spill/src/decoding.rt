@@ -9,6 +9,7 @@ ghost use Rattle.hop_spill.specs.Answers.{Gives, IsAnswer};
 use crate::fields::{MAGIC, blob, long, word, word_within};
 use crate::spill::{Spill, SpillFault};
 use crate::stop::Stop;
+use hop_base::limits::{MAX_ATTEMPTS, MAX_RECORDS, MAX_REDUCERS, MAX_SPLITS};
 use hop_base::{Listed, Pair, Sheet, Sheets, Val};
 use hop_laws::partition;
 use std::alloc::Global;
@@ -82,11 +83,11 @@ fn head_of(bytes: &[u8]) -> Result<(Head, &[u8]), Stop>
     ensures few { IfOk result (λ x. x.0.reducers ≤ 8) }
 {
     let (_letters, rest) = word_within(MAGIC, MAGIC, bytes)?;
-    let (split, rest) = word_within(0, 1023, rest)?;
-    let (attempt, rest) = word_within(0, 15, rest)?;
-    let (from, rest) = word_within(0, 16_777_215, rest)?;
-    let (to, rest) = word_within(from + 1, 16_777_216, rest)?;
-    let (reducers, rest) = word_within(1, 8, rest)?;
+    let (split, rest) = word_within(0, MAX_SPLITS - 1, rest)?;
+    let (attempt, rest) = word_within(0, MAX_ATTEMPTS as u32 - 1, rest)?;
+    let (from, rest) = word_within(0, MAX_RECORDS - 1, rest)?;
+    let (to, rest) = word_within(from + 1, MAX_RECORDS, rest)?;
+    let (reducers, rest) = word_within(1, MAX_REDUCERS as u32, rest)?;
     let head = Head {
         split,
         attempt: attempt as u8,

@@ -8,8 +8,6 @@ mod encoding;
 mod fields;
 pub mod spill;
 mod stop;
-#[cfg(test)]
-mod tests;
 
 pub use decoding::decode;
 pub use encoding::encode;

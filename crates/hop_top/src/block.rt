@@ -10,7 +10,7 @@ ghost use Rattle.hop_top.specs.Work.{block_summary, part_files, part_name};
 use crate::outcome::{File, Outcome, Refusal};
 use crate::puts::{NamedFile, hand_out};
 use crate::reads::read_file;
-use hop_base::limits::MAX_INPUT;
+use hop_base::limits::{MAX_INPUT, MAX_RECORDS};
 use hop_base::{NoMemory, Settings, Text, Texts};
 use hop_jobs::Known;
 use hop_ports::{Folder, Sink};
@@ -19,7 +19,7 @@ use hop_words::file_name;
 use std::alloc::{AllocError, Global};
 
 /// All records stand in one split, since `block` makes no spills.
-const ONE_SPLIT: u32 = 16_777_216;
+const ONE_SPLIT: u32 = MAX_RECORDS;
 
 // What is printed at the end.
 fn summary(alloc: Global, records: u32, parts: u8) -> Result<String, AllocError>

@@ -6,8 +6,6 @@ pub mod outcome;
 pub mod puts;
 pub mod reads;
 pub mod report;
-#[cfg(test)]
-mod tests;
 pub mod top;
 
 pub use outcome::{File, Outcome, Refusal};

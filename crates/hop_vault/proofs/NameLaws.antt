@@ -1,40 +1,26 @@
 -- The name of a spill's file tells its split, its attempt and where it begins.
-use Rattle.std.proofs.Common.{◌≡◌, ℕ, ◌<◌, ◌^◌, true, List, [], ◌∷◌, ◌++◌, rules, refl, ap, ◌∙◌, arith, decimal}
+use Rattle.std.proofs.Common.{◌≡◌, ℕ, ◌<◌, ◌^◌, true, List, ◌∷◌, ◌++◌, refl, arith, decimal}
 use Rattle.std.specs.Prelude.{codes}
 use Rattle.std.specs.Char.{is_ascii_digit}
 use Rattle.std.specs.List.{list_all}
-use Rattle.std.specs.Str.Parse.{digits_value}
-use Rattle.std.proofs.lemmas.Bool.{false≢true}
 use Rattle.std.proofs.lemmas.List.{append_cancel_left}
-use Rattle.std.proofs.lemmas.Str.Parse.{IsNumeralModel, numerals_by_value}
-use Rattle.std.proofs.lemmas.Fmt.{digits_decimal, decimal_injective}
-use Rattle.hop_spill.proofs.FieldLaws.{both_true}
+use Rattle.std.proofs.lemmas.Fmt.{decimal_injective}
+use Rattle.hop_base.proofs.Fronts.{front_unique}
+use Rattle.hop_base.proofs.Numerals.{decimal_digits}
 use Rattle.hop_vault.specs.Stored.{name_of}
-
-own : IsNumeralModel (λ ds. list_all is_ascii_digit ds ≡ true) (digits_value 10)
-own = numerals_by_value (λ ds. list_all is_ascii_digit ds ≡ true) (search rules)
 
 -- digits up to a dash are determined
 up_to_dash : (ds es r s : List ℕ) → list_all is_ascii_digit ds ≡ true → list_all is_ascii_digit es ≡ true → ds ++ 45 ∷ r ≡ es ++ 45 ∷ s → (ds ≡ es) × (r ≡ s)
-up_to_dash [] [] r s h k e = (refl, cc)
-up_to_dash [] (d ∷ es) r s h k e =
-    let same : 45 ≡ d = cc in
-    absurd (false≢true (ap is_ascii_digit same ∙ (both_true (is_ascii_digit d) (list_all is_ascii_digit es) k).0))
-up_to_dash (d ∷ ds) [] r s h k e =
-    let same : 45 ≡ d = cc in
-    absurd (false≢true (ap is_ascii_digit same ∙ (both_true (is_ascii_digit d) (list_all is_ascii_digit ds) h).0))
-up_to_dash (d ∷ ds) (c ∷ es) r s h k e =
-    let same : d ≡ c = cc in
-    let rest : ds ++ 45 ∷ r ≡ es ++ 45 ∷ s = cc in
-    let both = up_to_dash ds es r s (both_true (is_ascii_digit d) (list_all is_ascii_digit ds) h).1 (both_true (is_ascii_digit c) (list_all is_ascii_digit es) k).1 rest in
-    (cc, both.1)
+up_to_dash ds es r s h k e =
+    let both = front_unique is_ascii_digit ds (45 ∷ r) es (45 ∷ s) h refl k refl e in
+    (both.0, cc)
 
 -- a number up to a dash is determined
 number_up_to_dash : (m n : ℕ) (r s : List ℕ) → m < 2 ^ 32 → n < 2 ^ 32 → decimal m ++ 45 ∷ r ≡ decimal n ++ 45 ∷ s → (m ≡ n) × (r ≡ s)
 number_up_to_dash m n r s h k e =
     let m_fits : m < 2 ^ 64 = omega (arith, h) in
     let n_fits : n < 2 ^ 64 = omega (arith, k) in
-    let both = up_to_dash (decimal m) (decimal n) r s (digits_decimal own m m_fits) (digits_decimal own n n_fits) e in
+    let both = up_to_dash (decimal m) (decimal n) r s (decimal_digits m m_fits) (decimal_digits n n_fits) e in
     (decimal_injective m n m_fits n_fits both.0, both.1)
 
 pub name_tells : (i a f j b g : ℕ) → i < 2 ^ 32 → a < 2 ^ 32 → f < 2 ^ 32 → j < 2 ^ 32 → b < 2 ^ 32 → g < 2 ^ 32 → name_of i a f ≡ name_of j b g → (i ≡ j) × (a ≡ b) × (f ≡ g)

@@ -17,7 +17,7 @@ use Rattle.hop_base.specs.Files.{Files}
 use Rattle.hop_ports.specs.Views.{FolderView, with_file}
 use Rattle.hop_spill.specs.declared.spill.Spill.{Spill}
 use Rattle.hop_spill.specs.Spelling.{IsSpill, spill_text}
-use Rattle.hop_spill.proofs.FieldLaws.{both_true}
+use Rattle.hop_base.proofs.Truth.{both_true}
 use Rattle.hop_vault.specs.declared.kept.Kept.{Kept}
 use Rattle.hop_vault.specs.declared.kept.KeepFault.{KeepFault}
 use Rattle.hop_vault.specs.declared.kept.KeepFault.TheVariants as fault

@@ -7,8 +7,6 @@ pub mod kept;
 mod names;
 mod reading;
 mod rows;
-#[cfg(test)]
-mod tests;
 mod vault;
 
 pub use kept::{FetchFault, KeepFault, Kept};

@@ -1,6 +1,6 @@
 -- A parse of the one clap command agrees with the scan.
-use Rattle.std.proofs.Common.{◌≡◌, ℕ, Bool, true, false, cond, if◌then◌else◌, List, [], ◌∷◌, ◌++◌, Option, None, Some, map, refl, sym, ap, ap₂, subst, ◌∙◌, codes}
-use Rattle.std.specs.Prelude.{not, is_some, ◌&&◌, ◌||◌, ◌==◌, find, option_map, fold, count_by}
+use Rattle.std.proofs.Common.{◌≡◌, Bool, true, false, if◌then◌else◌, List, [], ◌∷◌, ◌++◌, Option, None, Some, map, refl, sym, ap, ap₂, subst, ◌∙◌, codes}
+use Rattle.std.specs.Prelude.{not, is_some, ◌&&◌, ◌||◌, find, option_map, fold, count_by}
 use Rattle.std.specs.List.{list_any, list_all}
 use Rattle.std.specs.Option.{option_map_or}
 use Rattle.std.proofs.Common.{◌⊎◌, inl, inr, unwrap_or}
@@ -16,14 +16,14 @@ use Rattle.clap.specs.declared.error.kind.ErrorKind.TheVariants.{OutOfMemory}
 use Rattle.clap.specs.declared.parser.matches.ArgMatches.{ArgMatches}
 use Rattle.clap.specs.declared.parser.matches.Found.{Found}
 use Rattle.hop_words.specs.Table.{option_names}
-use Rattle.clap.specs.Walk.{Held, Row, is_early_multiple, Rule, Text, finished, has_row, nothing_held, rows_after, rows_of, settled, walk, walk_from, walked, with_default}
-use Rattle.clap.specs.Faults.{check_fault, defaults_fault, entered_fault, fault_of, is_simple_and_free, level_fault, settle_fault, walk_fault}
+use Rattle.clap.specs.Walk.{Row, is_early_multiple, Rule, Text, has_row, nothing_held, rows_after, rows_of, walk, walk_from, with_default}
+use Rattle.clap.specs.Faults.{check_fault, defaults_fault, entered_fault, fault_of, is_simple_and_free, level_fault, walk_fault}
 use Rattle.clap.specs.Takes.{is_given}
-use Rattle.clap.specs.Simple.{App, HasMatchesOf, Shape, built, entered, is_ready, is_simple, matches_of, new_app, on_top}
+use Rattle.clap.specs.Simple.{App, HasMatchesOf, built, entered, matches_of}
 use Rattle.hop_words.specs.Clap.{AllText, Finds, HasValues, NamesProgram, hop_app, option_rule, plain_id, plain_rule, texts_in, values_at, values_for, words_behind}
 use Rattle.hop_words.specs.Scan.{Scanned, is_known, scan}
-use Rattle.hop_words.proofs.ClapRules.{built_option, built_plain, built_rules, filled_rules}
-use Rattle.hop_words.proofs.ClapWalk.{Agrees, at_rest, both_ways, end_rows, faults, holding, plainly, shape}
+use Rattle.hop_words.proofs.ClapRules.{built_rules, filled_rules}
+use Rattle.hop_words.proofs.ClapWalk.{Agrees, both_ways, end_rows, faults, shape}
 
 -- it when it is built
 abbrev pub built_app : List Text → App

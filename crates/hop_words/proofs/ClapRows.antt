@@ -1,14 +1,14 @@
 -- The values that the rows of a parse have for an id.
-use Rattle.std.proofs.Common.{◌≡◌, Bool, true, false, cond, if◌then◌else◌, List, [], ◌∷◌, ◌++◌, Option, None, Some, refl, sym, ap, ◌∙◌}
+use Rattle.std.proofs.Common.{◌≡◌, Bool, true, false, cond, if◌then◌else◌, List, [], ◌∷◌, ◌++◌, None, Some, refl, sym, ap, ◌∙◌}
 use Rattle.std.specs.Prelude.{find}
 use Rattle.std.specs.Option.{option_map_or}
 use Rattle.std.specs.Str.{bytes_eq}
 use Rattle.std.proofs.lemmas.Bool.{true≢false}
-use Rattle.clap.specs.Walk.{Row, Text, at_row, more_values, with_values}
+use Rattle.clap.specs.Walk.{Row, Text, more_values, with_values}
 use Rattle.clap.specs.declared.builder.value_parser.Reading.{Reading}
 use Rattle.clap.specs.declared.parser.matches.ValueSource.{ValueSource}
 use Rattle.hop_words.specs.Clap.{values_at}
-use Rattle.hop_words.proofs.ClapRules.{same_text, text_itself}
+use Rattle.hop_words.proofs.ClapRules.{same_text}
 
 -- a row's values, where the row has the id, or those that the others have
 abbrev chosen : Bool → List Text → List Text → List Text

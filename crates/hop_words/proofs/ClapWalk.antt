@@ -1,25 +1,21 @@
 -- What clap makes of the words, one after another, is what the scan makes of them.
 use Rattle.std.proofs.Common.{◌≡◌, ℕ, Bool, true, false, cond, if◌then◌else◌, List, [], ◌∷◌, ◌++◌, Option, None, Some, map, refl, sym, ap, ap₂, subst, ◌∙◌, codes, append_assoc, arith, zero, suc, ◌<◌}
-use Rattle.std.specs.Prelude.{not, is_some, ◌&&◌, ◌||◌, ◌==◌, find, option_map, fold, nat_lt, slice_get, length, filter, option_and_then}
-use Rattle.std.specs.Option.{option_map_or}
-use Rattle.std.specs.List.{list_any}
+use Rattle.std.specs.Prelude.{is_some, ◌&&◌, ◌||◌, ◌==◌, option_map, fold, length, filter, option_and_then}
 use Rattle.std.specs.Str.{bytes_eq, chars}
-use Rattle.std.proofs.lemmas.Bool.{true≢false, false≢true}
+use Rattle.std.proofs.lemmas.Bool.{true≢false}
 use Rattle.std.proofs.lemmas.Bool.Decides.{nat_tests}
 use Rattle.std.proofs.lemmas.List.{append-nil}
 use Rattle.std.proofs.lemmas.Str.{IsUtf8-from_ascii, chars-IsAscii, chars-append, encodes-chars}
 use Rattle.std.specs.Str.{IsUtf8, IsAscii}
-use Rattle.std.specs.Prelude.{slice_index}
 use lib.Utf8.{encodes}
 use Rattle.clap.specs.Lexer.{long_of, short_of, short_of_rest}
 use Rattle.clap.specs.Kinds.{Kinds, or_else}
-use Rattle.clap.specs.Walk.{Held, Rule, Row, Text, Waiting, Walk, idle, option, positional, arg_by_id, arg_by_long, arg_by_index, pushed, reading_by, settled, settled_rows, used, used_by_id, walk, walk_from, walked, with_values}
+use Rattle.clap.specs.Walk.{Held, Rule, Row, Text, Waiting, Walk, idle, option, positional, arg_by_id, reading_by, settled_rows, used, used_by_id, walked}
 use Rattle.clap.specs.Faults.{flags_fault, settle_fault, turn_fault, walk_fault, use_fault}
 use Rattle.clap.specs.Simple.{Shape, new_shape}
-use Rattle.clap.specs.declared.builder.value_parser.Reading.{Reading}
 use Rattle.clap.specs.declared.parser.matches.ValueSource.TheVariants.{CommandLine}
 use Rattle.hop_words.specs.Clap.{AllText, plain_id, values_at, values_for}
-use Rattle.hop_words.specs.Scan.{Scanned, is_dashed, is_end, is_known, scan, scan_option, scan_plain, scan_word, values_given, with_given, with_plain}
+use Rattle.hop_words.specs.Scan.{Scanned, is_end, is_known, scan, scan_option, scan_plain, scan_word, values_given, with_given, with_plain}
 use Rattle.hop_words.proofs.ClapRules.{built_option, built_plain, built_rules, id_known, id_plain, long_known, long_unknown, no_short, position_plain, same_text, text_itself}
 use Rattle.hop_words.proofs.ClapRows.{values_with}
 

@@ -7,8 +7,6 @@ mod numbers;
 pub mod options;
 mod parse;
 mod read;
-#[cfg(test)]
-mod tests;
 
 pub use fault::WordsFault;
 pub use names::file_name;

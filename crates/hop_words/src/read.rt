@@ -10,6 +10,7 @@ use crate::names::is_name;
 use crate::numbers::number_in;
 use crate::options::{Command, Options};
 use crate::parse::{PLAIN, parsed, texts, values};
+use hop_base::limits::MAX_REDUCERS;
 use hop_base::{Marks, Settings, Text, Words};
 use hop_jobs::{Known, Max, Sum, Top, Wc};
 use std::alloc::Global;
@@ -18,9 +19,6 @@ use std::alloc::Global;
 const MAX_K: u32 = 1_000;
 
 const DEFAULT_K: u32 = 10;
-
-/// The greatest number of reducers.
-const MAX_REDUCERS: u32 = 8;
 
 // The job of this name.
 fn job_named(word: &str, k: u32) -> Option<Known>
@@ -150,7 +148,7 @@ fn read_found(
     let Some(k) = number_in(1, MAX_K, DEFAULT_K, k) else {
         return Err(WordsFault::Usage);
     };
-    let Some(reducers) = number_in(1, MAX_REDUCERS, 1, reducers) else {
+    let Some(reducers) = number_in(1, MAX_REDUCERS as u32, 1, reducers) else {
         return Err(WordsFault::Usage);
     };
     match plain {

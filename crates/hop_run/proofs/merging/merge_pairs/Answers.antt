@@ -45,6 +45,8 @@ returns c =
     let a : List Pair = c.args.a.now in
     let b : List Pair = c.args.b.now in
     let ended : (length a ≤ c.loop-i.i) ⊎ (length b ≤ c.loop-i.j) = elim c.loop-i-test.branch [ then-loop-i-test+else-j-b w ↦ inr (omega arith) | else-loop-i-test w ↦ inl (omega arith) ] in
-    c.in_ok-copy_from-2.ensures
-    ∙ ap (λ ps. ps ++ drop c.loop-i.j b) c.in_ok-copy_from.ensures
+    c.in_ok-copy_all-2.ensures
+    ∙ ap (λ ps. ps ++ c.split_at-2.result.1.now) c.in_ok-copy_all.ensures
+    ∙ ap (λ qs. (c.loop-i.pairs.items ++ qs) ++ c.split_at-2.result.1.now) c.split_at.ensures.back
+    ∙ ap (λ qs. (c.loop-i.pairs.items ++ drop c.loop-i.i a) ++ qs) c.split_at-2.ensures.back
     ∙ merged_last a b c.loop-i.i c.loop-i.j c.loop-i.pairs.items (ord pair_cmp (a ++ b)) c.requires.first c.requires.second ended c.loop-i.invariant.told

@@ -1,5 +1,4 @@
-use Rattle.std.proofs.Common.{◌≡◌, Bool, true, false, not, refl, ap, ◌∙◌, sym, arith}
-use Rattle.std.specs.Str.Parse.{ParsesUnsigned}
+use Rattle.std.proofs.Common.{◌≡◌, true, ap, ◌∙◌, sym, arith}
 use Rattle.hop_words.specs.Numbers.{is_number}
 use Rattle.hop_words.proofs.NumberLaws.{unread_none}
 use Rattle.hop_words.proofs.numbers.number_between.Goals as goal

@@ -1,0 +1,133 @@
+//! Tests of the blocking job, with a job of the caller's own.
+ghost use Rattle.std.specs.Prelude.{◌≤◌, length};
+
+use hop_base::{Blob, NoMemory, Pair, Text, Texts, Val};
+use hop_fold::{block, block_lines};
+use hop_jobs::{Known, Max, Sum, Top, Wc};
+use hop_laws::Job;
+use hop_records::{Book, BookFault};
+use std::alloc::Global;
+use std::test::Fail;
+
+// Counts records by their first byte.
+#[derive(Clone, Copy, Debug)]
+struct Initials;
+
+impl Job for Initials {
+    ghost use Rattle.hop_tests.specs.Initials.{initials_meaning, initials_lawful};
+
+    ghost meaning = { λ _. initials_meaning };
+
+    ghost lawful = { λ _. initials_lawful };
+
+    fn name(&self, alloc: Global) -> Result<Blob, NoMemory> {
+        Blob::from_short(alloc, b"initials")
+    }
+
+    fn map(&self, alloc: Global, line: &[u8]) -> Result<Vec<Pair>, NoMemory> {
+        let (first, _) = line.split_at(line.len().min(1));
+        let key = Blob::from_short(alloc, first)?;
+        let s = Blob::from_short(alloc, b"")?;
+        let val = Val { n: 1, s };
+        let mut pairs = Vec::new(alloc);
+        pairs.push(Pair { key, val })?;
+        Ok(pairs)
+    }
+
+    fn combine(&self, alloc: Global, key: &Blob, vals: Vec<Val>) -> Result<Vec<Val>, NoMemory> {
+        Sum.combine(alloc, key, vals)
+    }
+
+    fn reduce(
+        &self,
+        alloc: Global,
+        key: &Blob,
+        vals: &[Val],
+        out: &mut Vec<u8>,
+    ) -> Result<(), NoMemory> {
+        Sum.reduce(alloc, key, vals, out)
+    }
+}
+
+// The texts of the blocking job, each behind the number of its partition and a colon.
+fn blocked<J: Job>(alloc: Global, job: &J, input: &[u8], r: u8) -> Result<Vec<u8>, BookFault>
+    requires few { length input.now ≤ 16777216 }
+    requires some { 1 ≤ r }
+    requires most { r ≤ 8 }
+{
+    let book = Book::read(alloc, input, 16_777_216)?;
+    match block(alloc, job, &book, r) {
+        Ok(texts) => labelled(alloc, &texts),
+        Err(NoMemory) => Err(BookFault::NoMemory),
+    }
+}
+
+fn labelled(alloc: Global, texts: &Texts) -> Result<Vec<u8>, BookFault> {
+    let mut all = Vec::new(alloc);
+    for text in texts.as_slice() {
+        if all.push(b':').is_err() || all.extend_from_slice(text.as_slice()).is_err() {
+            return Err(BookFault::NoMemory);
+        }
+    }
+    Ok(all)
+}
+
+#[test]
+fn blocks_by_each_job(rt: HostRuntime) -> Result<(), Fail> {
+    let alloc = rt.alloc();
+    let words = b"a b\nb c\na a\n";
+    let wc = Known::Wc(Wc);
+    assert_eq!(rt;
+        blocked(alloc, &wc, words, 1)?.as_slice(),
+        b":a\t3\nb\t2\nc\t1\n".as_slice()
+    );
+    assert_eq!(rt;
+        blocked(alloc, &wc, words, 2)?.as_slice(),
+        b":b\t2\n:a\t3\nc\t1\n".as_slice()
+    );
+    let numbers = b"k\t18446744073709551615\nk\t1\nk\t18446744073709551616\nk\t\nk\n";
+    let sum = Known::Sum(Sum);
+    assert_eq!(rt;
+        blocked(alloc, &sum, numbers, 1)?.as_slice(),
+        b":k\t18446744073709551615\n".as_slice()
+    );
+    let best = b"b\t3\na\t3\nc\t5\nb\t3\n";
+    let two = Known::Top(Top::new(2));
+    assert_eq!(rt;
+        blocked(alloc, &two, best, 1)?.as_slice(),
+        b":c\t5\na\t3\n".as_slice()
+    );
+    let four = Known::Top(Top::new(4));
+    assert_eq!(rt;
+        blocked(alloc, &four, best, 1)?.as_slice(),
+        b":c\t5\na\t3\nb\t3\nb\t3\n".as_slice()
+    );
+    let max = Known::Max(Max);
+    assert_eq!(rt;
+        blocked(alloc, &max, best, 1)?.as_slice(),
+        b":a\t3\nb\t3\nc\t5\n".as_slice()
+    );
+    Ok(())
+}
+
+#[test]
+fn blocks_by_a_job_of_the_callers_own(rt: HostRuntime) -> Result<(), Fail> {
+    let alloc = rt.alloc();
+    let text = blocked(alloc, &Initials, b"ab\nb\n\nax", 1)?;
+    assert_eq!(rt; text.as_slice(), b":\t1\na\t2\nb\t1\n".as_slice());
+    Ok(())
+}
+
+#[test]
+fn blocks_the_lines_of_texts(rt: HostRuntime) -> Result<(), Fail> {
+    let alloc = rt.alloc();
+    let mut texts = Texts::new(alloc);
+    texts.push(Text::from_slice(alloc, b"b\t2\n")?)?;
+    texts.push(Text::from_slice(alloc, b"a\t3\nc\t3\n")?)?;
+    let out = block_lines(alloc, &Top::new(2), &texts, 2)?;
+    assert_eq!(rt;
+        labelled(alloc, &out)?.as_slice(),
+        b":a\t3\nc\t3\n:".as_slice()
+    );
+    Ok(())
+}

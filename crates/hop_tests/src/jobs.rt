@@ -1,0 +1,160 @@
+//! Tests of the jobs.
+ghost use Rattle.std.specs.Prelude.{◌≡◌, ◌≤◌, ◌∷◌, [], length, IfOk};
+
+use hop_base::{Blob, NoMemory, Pair, Val};
+use hop_jobs::{Known, Max, Sum, Top, Wc};
+use hop_laws::Job;
+use std::alloc::Global;
+use std::test::Fail;
+
+// What the job emits for a record, a line for each pair, and what it reduces each value of these to.
+fn emitted<J: Job>(alloc: Global, job: &J, line: &[u8]) -> Result<Vec<u8>, NoMemory>
+    requires { length line.now ≤ 131050 }
+{
+    let mut text = Vec::new(alloc);
+    for pair in job.map(alloc, line)? {
+        text.extend_from_slice(pair.key.as_slice())?;
+        let number = pair.val.n;
+        let shown = format!(in alloc; "\t{number}\n")?;
+        text.extend_from_slice(shown.as_bytes())?;
+    }
+    Ok(text)
+}
+
+// A list of one value.
+fn alone(alloc: Global, val: Val) -> Result<Vec<Val>, NoMemory>
+    ensures { IfOk result (λ vals. vals.items ≡ val ∷ []) }
+{
+    let mut vals = Vec::new(alloc);
+    vals.push(val)?;
+    Ok(vals)
+}
+
+// Appends what each of these values alone is reduced to.
+fn reduce_each<J: Job>(
+    alloc: Global,
+    job: &J,
+    key: &Blob,
+    vals: Vec<Val>,
+    text: &mut Vec<u8>,
+) -> Result<(), NoMemory> {
+    for val in vals {
+        job.reduce(alloc, key, &alone(alloc, val)?, text)?;
+    }
+    Ok(())
+}
+
+// What each value alone is combined and reduced to.
+fn reduced<J: Job>(alloc: Global, job: &J, line: &[u8]) -> Result<Vec<u8>, NoMemory>
+    requires { length line.now ≤ 131050 }
+{
+    let mut text = Vec::new(alloc);
+    for Pair { key, val } in job.map(alloc, line)? {
+        let vals = job.combine(alloc, &key, alone(alloc, val)?)?;
+        reduce_each(alloc, job, &key, vals, &mut text)?;
+    }
+    Ok(text)
+}
+
+// A record, and what is to come of it.
+#[derive(Clone, Copy)]
+struct Row {
+    line: &'static [u8],
+    text: &'static [u8],
+}
+
+#[test]
+fn reads_a_record_at_its_last_tab(rt: HostRuntime) -> Result<(), Fail> {
+    let alloc = rt.alloc();
+    let rows = [
+        Row {
+            line: b"5",
+            text: b"",
+        },
+        Row {
+            line: b"\t7",
+            text: b"\t7\n",
+        },
+        Row {
+            line: b"a\tb\t7",
+            text: b"a\tb\t7\n",
+        },
+        Row {
+            line: b"k\t00000000000000000007",
+            text: b"k\t7\n",
+        },
+        Row {
+            line: b"k\t000000000000000000007",
+            text: b"",
+        },
+        Row {
+            line: b"k\t007",
+            text: b"k\t7\n",
+        },
+        Row {
+            line: b"k\t18446744073709551615",
+            text: b"k\t18446744073709551615\n",
+        },
+        Row {
+            line: b"k\t18446744073709551616",
+            text: b"",
+        },
+        Row {
+            line: b"k\t",
+            text: b"",
+        },
+        Row {
+            line: b"k\t+7",
+            text: b"",
+        },
+        Row {
+            line: b"k\t-7",
+            text: b"",
+        },
+        Row {
+            line: b"k\t7\r",
+            text: b"",
+        },
+    ];
+    for row in &rows {
+        if row.line.len() <= 131_050 {
+            let text = emitted(alloc, &Sum, row.line)?;
+            assert_eq!(rt; text.as_slice(), row.text);
+        }
+    }
+    Ok(())
+}
+
+#[test]
+fn jobs_through_their_bound(rt: HostRuntime) -> Result<(), Fail> {
+    let alloc = rt.alloc();
+    let wc = Known::Wc(Wc);
+    assert_eq!(rt; wc.name(alloc)?.as_slice(), b"wc".as_slice());
+    assert_eq!(rt;
+        reduced(alloc, &wc, b" b \ta\r b")?.as_slice(),
+        b"b\t1\na\r\t1\nb\t1\n".as_slice()
+    );
+    let sum = Known::Sum(Sum);
+    assert_eq!(rt; sum.name(alloc)?.as_slice(), b"sum".as_slice());
+    assert_eq!(rt;
+        reduced(alloc, &sum, b"b\t3")?.as_slice(),
+        b"b\t3\n".as_slice()
+    );
+    let max = Known::Max(Max);
+    assert_eq!(rt; max.name(alloc)?.as_slice(), b"max".as_slice());
+    assert_eq!(rt;
+        reduced(alloc, &max, b"b\t3")?.as_slice(),
+        b"b\t3\n".as_slice()
+    );
+    let top = Known::Top(Top::new(1000));
+    assert_eq!(rt; top.name(alloc)?.as_slice(), b"top:1000".as_slice());
+    assert_eq!(rt;
+        emitted(alloc, &top, b"b\t3")?.as_slice(),
+        b"\t3\n".as_slice()
+    );
+    assert_eq!(rt;
+        reduced(alloc, &top, b"b\t3")?.as_slice(),
+        b"b\t3\n".as_slice()
+    );
+    Ok(())
+}

@@ -1,0 +1,212 @@
+//! Tests of runs and of merging them.
+ghost use Rattle.std.specs.Prelude.{◌≡◌, ◌<◌, ◌≤◌, ◌++◌, ◌∷◌, [], IfOk};
+ghost use Rattle.std.specs.List.{flat_map};
+ghost use Rattle.hop_run.specs.Runs.{RunStands};
+ghost use Rattle.hop_laws.specs.Blocking.{part_pairs};
+ghost use Rattle.hop_laws.specs.Groups.{red};
+ghost use Rattle.hop_records.specs.Records.{splits_of, len_of};
+
+use hop_base::{NoMemory, Part, Text};
+use hop_jobs::{Known, Wc};
+use hop_laws::Job;
+use hop_merge::merge_all;
+use hop_records::{Book, BookFault};
+use hop_run::{Message, Parcel, Run, Runs};
+use std::alloc::{AllocError, Global};
+use std::test::Fail;
+
+// The run of a part, combined if that is wanted.
+fn run_of<J: Job>(
+    alloc: Global,
+    job: &J,
+    book: &Book,
+    part: Part,
+    combined: bool,
+) -> Result<Run, NoMemory>
+    requires split { part.split < splits_of book.now }
+    requires ordered { part.from ≤ part.to }
+    requires within { part.to ≤ len_of book.now part.split }
+    ensures parts { IfOk result (λ run. run.parts ≡ part ∷ []) }
+    ensures stands { IfOk result (RunStands (J.meaning job.now).reduced (part_pairs (J.meaning job.now) book.now.records book.now.split 0 1)) }
+{
+    let run = Run::make(alloc, job, book, part, 0, 1)?;
+    if !combined {
+        return Ok(run);
+    }
+    Run::combine(alloc, job, &run)
+}
+
+// The text of both, merged and then combined.
+fn text_of_both<J: Job>(
+    alloc: Global,
+    job: &J,
+    book: &Book,
+    one: &Run,
+    other: &Run,
+) -> Result<Text, NoMemory>
+    requires one { RunStands (J.meaning job.now).reduced (part_pairs (J.meaning job.now) book.now.records book.now.split 0 1) one.now }
+    requires other { RunStands (J.meaning job.now).reduced (part_pairs (J.meaning job.now) book.now.records book.now.split 0 1) other.now }
+    ensures { IfOk result (λ text. text ≡ red (J.meaning job.now).reduced
+        (flat_map (part_pairs (J.meaning job.now) book.now.records book.now.split 0 1) (one.now.parts ++ other.now.parts))) }
+{
+    let _known = book.records();
+    let merged = Run::merge(alloc, one, other)?;
+    let combined = Run::combine(alloc, job, &merged)?;
+    let text = Run::reduce(alloc, job, &combined)?;
+    Ok(text)
+}
+
+// Whether the runs of two parts are combined before they are merged or only afterwards: it is the same text.
+fn text_in_order<J: Job>(
+    alloc: Global,
+    job: &J,
+    book: &Book,
+    a: Part,
+    b: Part,
+    combined_first: bool,
+) -> Result<Text, NoMemory>
+    requires a_split { a.split < splits_of book.now }
+    requires a_ordered { a.from ≤ a.to }
+    requires a_within { a.to ≤ len_of book.now a.split }
+    requires b_split { b.split < splits_of book.now }
+    requires b_ordered { b.from ≤ b.to }
+    requires b_within { b.to ≤ len_of book.now b.split }
+    ensures { IfOk result (λ text. text ≡ red (J.meaning job.now).reduced
+        (part_pairs (J.meaning job.now) book.now.records book.now.split 0 1 a ++ part_pairs (J.meaning job.now) book.now.records book.now.split 0 1 b)) }
+{
+    let one = run_of(alloc, job, book, a, combined_first)?;
+    let other = run_of(alloc, job, book, b, combined_first)?;
+    let text = text_of_both(alloc, job, book, &one, &other)?;
+    Ok(text)
+}
+
+// The pairs of a run: each key and the last digit of its number.
+fn shown(alloc: Global, run: &Run) -> Result<Vec<u8>, AllocError> {
+    let mut text = Vec::new(alloc);
+    for pair in run.sheet().as_slice() {
+        text.extend_from_slice(pair.key.as_slice())?;
+        text.push(b'0' + (pair.val.n % 10) as u8)?;
+    }
+    Ok(text)
+}
+
+fn two_records(alloc: Global) -> Result<Book, BookFault> {
+    Book::read(alloc, b"b a\nb\n", 2)
+}
+
+// Records of the only split of two.
+fn part(from: u32, to: u32) -> Part
+    requires { from ≤ to }
+    ensures split { result.split ≡ 0 }
+    ensures from { result.from ≡ from }
+    ensures to { result.to ≡ to }
+{
+    Part {
+        split: 0,
+        attempt: 0,
+        from,
+        to,
+    }
+}
+
+// The run of a part of the two records.
+fn made(alloc: Global, part: Part) -> Result<Run, NoMemory>
+    requires { part.from ≤ part.to }
+{
+    let Ok(book) = two_records(alloc) else {
+        return Err(NoMemory);
+    };
+    if part.split < book.splits() && part.to <= book.len(part.split) {
+        Run::make(alloc, &Known::Wc(Wc), &book, part, 0, 1)
+    } else {
+        Err(NoMemory)
+    }
+}
+
+// The text of the two records in one order of merging and combining.
+fn text_of_two(alloc: Global, a: Part, b: Part, combined_first: bool) -> Result<Text, NoMemory>
+    requires first { a.from ≤ a.to }
+    requires second { b.from ≤ b.to }
+{
+    let Ok(book) = two_records(alloc) else {
+        return Err(NoMemory);
+    };
+    let splits = book.splits();
+    if a.split >= splits
+        || b.split >= splits
+        || a.to > book.len(a.split)
+        || b.to > book.len(b.split)
+    {
+        return Err(NoMemory);
+    }
+    text_in_order(alloc, &Wc, &book, a, b, combined_first)
+}
+
+// The pairs of a run, and what they reduce to.
+fn shown_and_reduced(alloc: Global, run: &Run) -> Result<(Vec<u8>, Text), Fail> {
+    let shown = shown(alloc, run)?;
+    let text = Run::reduce(alloc, &Wc, run)?;
+    Ok((shown, text))
+}
+
+#[test]
+fn makes_combines_and_reduces(rt: HostRuntime) -> Result<(), Fail> {
+    let run = made(rt.alloc(), part(0, 2))?;
+    let (shown, text) = shown_and_reduced(rt.alloc(), &run)?;
+    assert_eq!(rt; shown.as_slice(), b"a1b1b1".as_slice());
+    assert_eq!(rt; text.as_slice(), b"a\t1\nb\t2\n".as_slice());
+    Ok(())
+}
+
+#[test]
+fn combines_and_reduces(rt: HostRuntime) -> Result<(), Fail> {
+    let run = made(rt.alloc(), part(0, 2))?;
+    let run = Run::combine(rt.alloc(), &Wc, &run)?;
+    let (shown, text) = shown_and_reduced(rt.alloc(), &run)?;
+    assert_eq!(rt; shown.as_slice(), b"a1b2".as_slice());
+    assert_eq!(rt; text.as_slice(), b"a\t1\nb\t2\n".as_slice());
+    Ok(())
+}
+
+// The runs of the two records.
+fn two_runs(alloc: Global) -> Result<Runs, NoMemory> {
+    let mut runs = Runs::new(alloc);
+    runs.push(made(alloc, part(0, 1))?)?;
+    runs.push(made(alloc, part(1, 2))?)?;
+    Ok(runs)
+}
+
+#[test]
+fn merges_many_runs(rt: HostRuntime) -> Result<(), Fail> {
+    let all = merge_all(rt.alloc(), two_runs(rt.alloc())?.as_slice())?;
+    assert_eq!(rt; shown(rt.alloc(), &all)?.as_slice(), b"a1b1b1".as_slice());
+    assert_eq!(rt; all.parts(), [part(0, 1), part(1, 2)].as_slice());
+    Ok(())
+}
+
+#[test]
+fn merges_no_runs(rt: HostRuntime) -> Result<(), Fail> {
+    let none = merge_all(rt.alloc(), &[])?;
+    assert_eq!(rt; none.sheet().as_slice().len(), 0);
+    assert_eq!(rt; none.parts().len(), 0);
+    Ok(())
+}
+
+#[test]
+fn merges_and_combines_in_both_orders(rt: HostRuntime) -> Result<(), Fail> {
+    for combined_first in [false, true] {
+        let text = text_of_two(rt.alloc(), part(0, 1), part(1, 2), combined_first)?;
+        assert_eq!(rt; text.as_slice(), b"a\t1\nb\t2\n".as_slice());
+    }
+    Ok(())
+}
+
+#[test]
+fn a_parcel_is_a_message(rt: HostRuntime) -> Result<(), Fail> {
+    let alloc = rt.alloc();
+    let part = part(0, 1);
+    let run = made(alloc, part)?.copy()?;
+    let message = Message::Parcel(Parcel { part, run });
+    assert!(rt; matches!(message, Message::Parcel(_)));
+    Ok(())
+}
