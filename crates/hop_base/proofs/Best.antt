@@ -2,25 +2,14 @@
 use Rattle.std.proofs.Common.{◌≡◌, ℕ, zero, suc, ◌+◌, ◌≤◌, Bool, true, false, cond, if◌then◌else◌, List, [], ◌∷◌, ◌++◌, length, take, drop, refl, sym, ap, ◌∙◌, subst, arith, inl, inr}
 use Rattle.std.specs.declared.cmp.Ordering.{Ordering}
 use Rattle.std.specs.declared.cmp.Ordering.TheVariants.{Less, Equal, Greater}
-use Rattle.std.specs.Ordering.{is_gt, is_eq, ordering_reverse}
+use Rattle.std.specs.Ordering.{is_gt, is_eq}
 use Rattle.std.specs.Cmp.{IsTotalOrder, upto, tied_itself}
-use Rattle.std.proofs.lemmas.Bool.{true≢false, false≢true, cases_lt}
+use Rattle.std.proofs.lemmas.Bool.{true≢false, cases_lt}
 use Rattle.std.proofs.lemmas.List.{take-append-drop, length-take-le, take_all}
 use Rattle.std.proofs.lemmas.Map.Lookups.{CmpEqualImpliesEq}
 use Rattle.hop_base.specs.Sorted.{insert_in_order, ord}
+use Rattle.hop_base.proofs.Truth.{level}
 use Rattle.hop_base.proofs.Sorted.{IsUptoAll, IsAscending, IsAscending-ord, count, count-append, SameItems, SameItems-ord, ord_same}
-
-below_from_above : (o p : Ordering) → p ≡ ordering_reverse o → is_gt o ≡ true → is_gt p ≡ false
-below_from_above Less p t e = absurd (false≢true e)
-below_from_above Equal p t e = absurd (false≢true e)
-below_from_above Greater p t e = ap is_gt t
-
-level : (o p : Ordering) → o ≡ ordering_reverse p → is_gt o ≡ false → is_gt p ≡ false → o ≡ Equal
-level Less Less t e f = cc
-level Less Equal t e f = cc
-level Less Greater t e f = absurd (true≢false f)
-level Equal p t e f = refl
-level Greater p t e f = absurd (true≢false e)
 
 module _ {X : Type 0} (cmp : X → X → Ordering) where
   -- none of the items is above x

@@ -9,23 +9,10 @@ use Rattle.std.proofs.lemmas.List.Elements.{All-from_recursion, recursion_from_A
 use Rattle.std.specs.List.Sorted.{IsPermutation, IsSorted}
 use Rattle.std.proofs.lemmas.List.Sums.{sum_by-cons}
 use Rattle.std.proofs.lemmas.List.Sorted.{sum_by-IsPermutation}
-use Rattle.std.proofs.lemmas.Bool.{true≢false, false≢true}
+use Rattle.std.proofs.lemmas.Bool.{true≢false}
 use Rattle.std.proofs.lemmas.Map.Lookups.{CmpEqualImpliesEq}
 use Rattle.hop_base.specs.Sorted.{insert_in_order, ord}
-use Rattle.hop_base.proofs.Truth.{eq_of}
-
--- not above and not below
-level : (o p : Ordering) → o ≡ ordering_reverse p → is_gt o ≡ false → is_gt p ≡ false → o ≡ Equal
-level Less Less t e f = cc
-level Less Equal t e f = cc
-level Less Greater t e f = absurd (true≢false f)
-level Equal p t e f = refl
-level Greater p t e f = absurd (true≢false e)
-
-below_from_above : (o p : Ordering) → p ≡ ordering_reverse o → is_gt o ≡ true → is_gt p ≡ false
-below_from_above Less p t e = absurd (false≢true e)
-below_from_above Equal p t e = absurd (false≢true e)
-below_from_above Greater p t e = ap is_gt t
+use Rattle.hop_base.proofs.Truth.{below_from_above, eq_of, level}
 
 module _ {X : Type 0} (cmp : X → X → Ordering) where
   -- x is above none of the items

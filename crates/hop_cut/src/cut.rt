@@ -1,11 +1,10 @@
 //! Cuts, and the texts of their snapshots.
-ghost use Rattle.std.specs.Prelude.{◌≡◌, ◌<◌, ◌≤◌, ℕ, List, IfOk, IsPermutation, decimal, length};
+ghost use Rattle.std.specs.Prelude.{◌≡◌, ◌<◌, ℕ, List, IfOk, IsPermutation, length};
 ghost use Rattle.std.specs.List.{flat_map};
 ghost use Rattle.hop_base.specs.declared.value.Pair.{Pair};
-ghost use Rattle.hop_base.specs.Order.{IsSheet};
 ghost use Rattle.hop_laws.specs.Groups.{red};
 ghost use Rattle.hop_cut.specs.Snapshot.{header_lines, text_of};
-ghost use Rattle.hop_cut.specs.Covered.{StandTogether, IsOfCoverage, snapshot_text, text_with, header_of};
+ghost use Rattle.hop_cut.specs.Covered.{IsOfCoverage, snapshot_text, text_with, header_of};
 
 use crate::texts::{push_first, push_splits};
 use hop_base::{Lens, Listed, NoMemory, Pair, Sheet, Text};

@@ -11,7 +11,8 @@ use hop_laws::{Job, combine_sheet, partition, reduce_sheet};
 use std::alloc::Global;
 use std::marker::Model;
 
-// So many pairs of a partition are kept before they are combined for the first time.
+// So many pairs are kept, in all partitions, before those of one are combined for the first time: few enough
+// for a processor's cache.
 const LEAST: usize = 32_768;
 
 // Pairs of one partition. They are combined when they have doubled since the last time, so there are
@@ -19,6 +20,7 @@ const LEAST: usize = 32_768;
 #[derive(Drop)]
 pub(crate) struct Gathered {
     pairs: Vec<Pair>,
+    least: usize,
     limit: usize,
 }
 
@@ -32,13 +34,14 @@ impl Model for Gathered {
 }
 
 impl Gathered {
-    // No pairs.
-    fn new(alloc: Global) -> Gathered
+    // No pairs. Fewer than `least` are not combined.
+    fn new(alloc: Global, least: usize) -> Gathered
         ensures { result ≡ [] }
     {
         Gathered {
             pairs: Vec::new(alloc),
-            limit: LEAST,
+            least,
+            limit: least,
         }
     }
 
@@ -57,7 +60,7 @@ impl Gathered {
         if self.pairs.len() >= self.limit {
             let pairs = std::mem::replace(&mut self.pairs, Vec::new(alloc));
             self.pairs = combined(alloc, job, pairs)?;
-            self.limit = self.pairs.len().saturating_mul(2).max(LEAST);
+            self.limit = self.pairs.len().saturating_mul(2).max(self.least);
         }
         Ok(())
     }
@@ -66,7 +69,7 @@ impl Gathered {
     fn reduce<J: Job>(self, alloc: Global, job: &J) -> Result<Text, NoMemory>
         ensures { IfOk result (λ text. text ≡ red (J.meaning job.now).reduced self) }
     {
-        let Gathered { pairs, limit: _ } = self;
+        let Gathered { pairs, .. } = self;
         let sheet = Sheet::from_pairs(pairs);
         let text = reduce_sheet(alloc, job, &sheet)?;
         Ok(Text::from_vec(text))
@@ -89,7 +92,7 @@ pub(crate) fn empty_lists(alloc: Global, r: u8) -> Result<Vec<Gathered>, NoMemor
 {
     let mut lists = Vec::new(alloc);
     for _p in 0..r {
-        lists.push(Gathered::new(alloc))?;
+        lists.push(Gathered::new(alloc, LEAST / r as usize))?;
     }
     Ok(lists)
 }

@@ -1,5 +1,5 @@
 //! The records of a text, one after the other.
-ghost use Rattle.std.specs.Prelude.{◌≡◌, ◌<◌, ◌∷◌, ◌++◌, length, IfOk};
+ghost use Rattle.std.specs.Prelude.{◌≡◌, ◌<◌, ◌∷◌, length, IfOk};
 ghost use Rattle.std.specs.List.{concat};
 ghost use Rattle.hop_records.specs.Records.{records_of};
 

@@ -1,5 +1,5 @@
 //! Passes over the groups of a sheet, a group being the pairs of one key.
-ghost use Rattle.std.specs.Prelude.{◌≡◌, ◌<◌, ◌≤◌, ◌++◌, length, map, IfOk, OnOk, IsSorted};
+ghost use Rattle.std.specs.Prelude.{◌≡◌, ◌<◌, ◌++◌, length, map, IfOk, OnOk, IsSorted};
 ghost use Rattle.hop_base.specs.Order.{pair_cmp};
 ghost use Rattle.hop_laws.specs.Groups.{red, IsFirstGroup};
 ghost use Rattle.hop_laws.specs.Stands.{combined_pairs, pairs_at};

@@ -1,5 +1,5 @@
 //! A folder in memory of whose calls some fail.
-ghost use Rattle.std.specs.Prelude.{◌≡◌, ◌≤◌, ◌↔◌, [], Some, IfOk, IfErr, OnOk, IfSome, IsTrue, vec_len};
+ghost use Rattle.std.specs.Prelude.{◌≡◌, ◌≤◌, ◌↔◌, Some, IfOk, IfErr, OnOk, IfSome, IsTrue, vec_len};
 ghost use Rattle.std.specs.FinMap as map;
 ghost use Rattle.hop_ports.specs.Views.{with_file};
 ghost use Rattle.hop_ports.specs.Causes.{OnlyRead, OnlyPut, GetCause, PutCause};

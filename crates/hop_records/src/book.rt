@@ -1,5 +1,5 @@
 //! Books: the records of an input and their splits.
-ghost use Rattle.std.specs.Prelude.{◌≡◌, ◌<◌, ◌≤◌, Some, IfOk, OnOk, IfErr, length, slice_get, vec_len};
+ghost use Rattle.std.specs.Prelude.{◌≡◌, ◌<◌, ◌≤◌, Some, IfOk, IfErr, length, slice_get, vec_len};
 ghost use Rattle.std.specs.Int.{div_ceil};
 ghost use Rattle.hop_records.specs.Records.{BookValue, records_of, splits_of, split_records, len_of, spill_count, BookCause, IsBook};
 

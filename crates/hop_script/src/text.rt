@@ -1,5 +1,5 @@
 //! Texts cut into lines, and lines into words.
-ghost use Rattle.std.specs.Prelude.{◌≡◌, ◌≤◌, ◌<◌, ◌==◌, false, [], ◌∷◌, ◌++◌, Some, None, MatchOption, IfSome, length, slice_get, option_map};
+ghost use Rattle.std.specs.Prelude.{◌≡◌, ◌<◌, ◌==◌, false, [], ◌∷◌, ◌++◌, Some, None, MatchOption, IfSome, length, option_map};
 ghost use Rattle.std.specs.List.{list_any, position_from};
 ghost use Rattle.hop_script.specs.Text.{lines_of, words_of, two_of, three_of};
 

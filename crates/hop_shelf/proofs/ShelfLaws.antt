@@ -16,7 +16,7 @@ use Rattle.hop_event.specs.declared.event.Via.TheVariants.{Lane, Late, Pull}
 use Rattle.hop_event.specs.History.{upto, winner, is_revoked}
 use Rattle.hop_base.specs.Ranges.{AreLens, AreMarks}
 use Rattle.hop_base.specs.Run.{restarts_of}
-use Rattle.hop_event.specs.Legal.{NoFinish, IsLegal, IsFinished, IsAttempt, MayCome, Rules, GrowsLegally, IsRange, IsWorker, CameByLane, GoesOn, MayWin, MayBeRevoked, no_other, restart_due, IsWon, AllSettled, AllWon}
+use Rattle.hop_event.specs.Legal.{Follows, NoFinish, IsLegal, IsFinished, IsAttempt, MayCome, Rules, GrowsLegally, IsRange, IsWorker, CameByLane, GoesOn, MayWin, MayBeRevoked, no_other, restart_due, IsWon, AllSettled, AllWon}
 use Rattle.hop_shelf.specs.Finish.{AllDone, IsBelow, NamesBelow}
 use Rattle.hop_shelf.specs.declared.kept.Kept.{Kept}
 use Rattle.hop_shelf.specs.declared.kept.Owner.{Owner}
@@ -53,28 +53,10 @@ module _ (rules : Rules) (p : ℕ) (marks : List ℕ) (tentative : Bool) (tells 
   none_due : false ≡ restart_due (restarts_of rules.script p) j.events
   none_due = sym no_restart ∙ ap (λ r. restart_due r j.events) s.restarts
 
-  pub arrived_sound : (part : Part) (via : Via) (new : JournalValue) (run : RunValue) (number : ℕ) (owner : Owner) (after : List Kept) → AddsEvent j (Arrive part via) new → IsRange rules (λ i. rules.attempts) part → IsWorker rules via → GoesOn j.events part → IsParcel part run → (IsTrue tells → RunHolds reduce pairs_of run) → number ≡ length j.events → owner ≡ owner_of part.split part.attempt j.events → after ≡ kept ++ record { number = number; owner = owner; run = run } ∷ [] → IsSound rules p marks tentative tells reduce pairs_of new after
-  arrived_sound part via new run number owner after a range worker goes parcel stands n o e =
-      let k : Kept = record { number = number; owner = owner; run = run } in
-      let owned = owned_by_winner j.events part.split part.attempt run.parts (winner part.split j.events) refl goes.alone goes.alive parcel.own in
-      subst (IsSound rules p marks tentative tells reduce pairs_of new) (sym e) (record {
-        legal = subst (GrowsLegally rules p) (sym a.events) (record { restarts = none_due; rule = (range, worker, goes) }, s.legal);
-        lens = a.lens ∙ s.lens;
-        ranges = subst AreLens (sym a.lens) s.ranges;
-        marks_are = a.marks ∙ s.marks_are;
-        marked = s.marked;
-        tentative_is = a.tentative ∙ s.tentative_is;
-        due = inr a.due;
-        by_records = s.by_records;
-        restarts = a.restarts ∙ s.restarts;
-        limit = s.limit;
-        stand = λ t. All-push (λ (k : Kept). RunHolds reduce pairs_of k.run) kept k (s.stand t) (stands t);
-        fit = subst (λ h. RunsFit h (kept ++ k ∷ [])) (sym a.events) (arrived_fit j.events kept part via k s.fit goes.joined parcel.chain (recursion_from_All (λ q. (q.split ≡ part.split) × (q.attempt ≡ part.attempt)) run.parts parcel.own) n (subst (AreOwned j.events run.parts) (sym o) owned));
-      })
-
-  pub ignored_sound : (part : Part) (via : Via) (have : ℕ) (new : JournalValue) → AddsEvent j (Ignore part via have) new → IsRange rules (λ i. rules.attempts) part → IsWorker rules via → (GoesOn j.events part → ⊥) → (via ≡ Pull → GoesOn j.events part) → have ≡ upto part.split part.attempt j.events → IsSound rules p marks tentative tells reduce pairs_of new kept
-  ignored_sound part via have new a range worker stays pulled h = record {
-    legal = subst (GrowsLegally rules p) (sym a.events) (record { restarts = none_due; rule = (range, worker, by_lane j.events part via pulled stays, stays, h) }, s.legal);
+  -- one event more, which may come, over runs that stand for their parts and fit it
+  after_sound : (e : Event) (new : JournalValue) (more : List Kept) → AddsEvent j e new → Follows rules p (λ i. rules.attempts) j.events e → (IsTrue tells → All (λ (k : Kept). RunHolds reduce pairs_of k.run) more) → RunsFit (e ∷ j.events) more → IsSound rules p marks tentative tells reduce pairs_of new more
+  after_sound e new more a follows stand fit = record {
+    legal = subst (GrowsLegally rules p) (sym a.events) (follows, s.legal);
     lens = a.lens ∙ s.lens;
     ranges = subst AreLens (sym a.lens) s.ranges;
     marks_are = a.marks ∙ s.marks_are;
@@ -84,41 +66,35 @@ module _ (rules : Rules) (p : ℕ) (marks : List ℕ) (tentative : Bool) (tells 
     by_records = s.by_records;
     restarts = a.restarts ∙ s.restarts;
     limit = s.limit;
-    stand = s.stand;
-    fit = subst (λ h. RunsFit h kept) (sym a.events) (ignored_fit j.events kept part via have s.fit);
+    stand = stand;
+    fit = subst (λ h. RunsFit h more) (sym a.events) fit;
   }
+
+  pub arrived_sound : (part : Part) (via : Via) (new : JournalValue) (run : RunValue) (number : ℕ) (owner : Owner) (after : List Kept) → AddsEvent j (Arrive part via) new → IsRange rules (λ i. rules.attempts) part → IsWorker rules via → GoesOn j.events part → IsParcel part run → (IsTrue tells → RunHolds reduce pairs_of run) → number ≡ length j.events → owner ≡ owner_of part.split part.attempt j.events → after ≡ kept ++ record { number = number; owner = owner; run = run } ∷ [] → IsSound rules p marks tentative tells reduce pairs_of new after
+  arrived_sound part via new run number owner after a range worker goes parcel stands n o e =
+      let k : Kept = record { number = number; owner = owner; run = run } in
+      let owned = owned_by_winner j.events part.split part.attempt run.parts (winner part.split j.events) refl goes.alone goes.alive parcel.own in
+      subst (IsSound rules p marks tentative tells reduce pairs_of new) (sym e) (after_sound (Arrive part via) new (kept ++ k ∷ []) a (record { restarts = none_due; rule = (range, worker, goes) })
+      (λ t. All-push (λ (k : Kept). RunHolds reduce pairs_of k.run) kept k (s.stand t) (stands t))
+      (arrived_fit j.events kept part via k s.fit goes.joined parcel.chain (recursion_from_All (λ q. (q.split ≡ part.split) × (q.attempt ≡ part.attempt)) run.parts parcel.own) n (subst (AreOwned j.events run.parts) (sym o) owned)))
+
+  pub ignored_sound : (part : Part) (via : Via) (have : ℕ) (new : JournalValue) → AddsEvent j (Ignore part via have) new → IsRange rules (λ i. rules.attempts) part → IsWorker rules via → (GoesOn j.events part → ⊥) → (via ≡ Pull → GoesOn j.events part) → have ≡ upto part.split part.attempt j.events → IsSound rules p marks tentative tells reduce pairs_of new kept
+  ignored_sound part via have new a range worker stays pulled h =
+      after_sound (Ignore part via have) new kept a (record { restarts = none_due; rule = (range, worker, by_lane j.events part via pulled stays, stays, h) })
+      (s.stand)
+      (ignored_fit j.events kept part via have s.fit)
 
   pub won_sound : (i a : ℕ) (new : JournalValue) → AddsEvent j (Won i a) new → MayWin rules (λ i. rules.attempts) j.events i a → IsSound rules p marks tentative tells reduce pairs_of new (map (committed_by i a) kept)
-  won_sound i a new e may = record {
-    legal = subst (GrowsLegally rules p) (sym e.events) (record { restarts = none_due; rule = may }, s.legal);
-    lens = e.lens ∙ s.lens;
-    ranges = subst AreLens (sym e.lens) s.ranges;
-    marks_are = e.marks ∙ s.marks_are;
-    marked = s.marked;
-    tentative_is = e.tentative ∙ s.tentative_is;
-    due = inr e.due;
-    by_records = s.by_records;
-    restarts = e.restarts ∙ s.restarts;
-    limit = s.limit;
-    stand = λ t. All-map (λ (k : Kept). RunHolds reduce pairs_of k.run) (committed_by i a) kept (All-weaker (λ (k : Kept). RunHolds reduce pairs_of k.run) (λ (k : Kept). RunHolds reduce pairs_of (committed_by i a k).run) (λ k w. stands_committed reduce pairs_of k (owned_by i a k.owner) w) kept (s.stand t));
-    fit = subst (λ h. RunsFit h (map (committed_by i a) kept)) (sym e.events) (won_fit j.events kept i a may.no_winner s.fit);
-  }
+  won_sound i a new e may =
+      after_sound (Won i a) new (map (committed_by i a) kept) e (record { restarts = none_due; rule = may })
+      (λ t. All-map (λ (k : Kept). RunHolds reduce pairs_of k.run) (committed_by i a) kept (All-weaker (λ (k : Kept). RunHolds reduce pairs_of k.run) (λ (k : Kept). RunHolds reduce pairs_of (committed_by i a k).run) (λ k w. stands_committed reduce pairs_of k (owned_by i a k.owner) w) kept (s.stand t)))
+      (won_fit j.events kept i a may.no_winner s.fit)
 
   pub revoked_sound : (i a : ℕ) (new : JournalValue) → AddsEvent j (Revoked i a) new → MayBeRevoked rules (λ i. rules.attempts) j.events i a → IsSound rules p marks tentative tells reduce pairs_of new (filter (is_other i a) kept)
-  revoked_sound i a new e may = record {
-    legal = subst (GrowsLegally rules p) (sym e.events) (record { restarts = none_due; rule = may }, s.legal);
-    lens = e.lens ∙ s.lens;
-    ranges = subst AreLens (sym e.lens) s.ranges;
-    marks_are = e.marks ∙ s.marks_are;
-    marked = s.marked;
-    tentative_is = e.tentative ∙ s.tentative_is;
-    due = inr e.due;
-    by_records = s.by_records;
-    restarts = e.restarts ∙ s.restarts;
-    limit = s.limit;
-    stand = λ t. All-filter (is_other i a) (λ (k : Kept). RunHolds reduce pairs_of k.run) kept (s.stand t);
-    fit = subst (λ h. RunsFit h (filter (is_other i a) kept)) (sym e.events) (revoked_fit j.events kept i a may.loses s.fit);
-  }
+  revoked_sound i a new e may =
+      after_sound (Revoked i a) new (filter (is_other i a) kept) e (record { restarts = none_due; rule = may })
+      (λ t. All-filter (is_other i a) (λ (k : Kept). RunHolds reduce pairs_of k.run) kept (s.stand t))
+      (revoked_fit j.events kept i a may.loses s.fit)
 
 module _ (rules : Rules) (p : ℕ) (marks : List ℕ) (tentative : Bool) (tells : Bool) (reduce : List ℕ → List Val → List ℕ) (pairs_of : Part → List Pair) (j : JournalValue) (kept : List Kept) (s : IsSound rules p marks tentative tells reduce pairs_of j kept) where
   pub joined_sound : (m n : ℕ) (work : WorkValue) (run : RunValue) → AreMergeable kept m n work.a work.first.parts work.b work.second.parts → IsMergeOf tells reduce pairs_of work run → IsSound rules p marks tentative tells reduce pairs_of j (joined_at kept m n run)

@@ -1,5 +1,5 @@
 //! A history with what is read off it: the coverage, the restart that is due, and the marks that are reached.
-ghost use Rattle.std.specs.Prelude.{◌≡◌, ◌+◌, ◌^◌, ◌<◌, ◌≤◌, ◌∷◌, [], ℕ, length, All, IfOk, OnOk, OnErr, IfSome, IfNone, IsTrue, ◌↔◌, ◌⊎◌, true, false, ◌==◌, ◌&&◌, if◌then◌else◌};
+ghost use Rattle.std.specs.Prelude.{◌≡◌, ◌+◌, ◌^◌, ◌<◌, ◌≤◌, [], ℕ, length, All, IfOk, OnOk, IfSome, IfNone, IsTrue, ◌↔◌, ◌⊎◌, true, false, ◌==◌, ◌&&◌, if◌then◌else◌};
 ghost use Rattle.std.specs.List.{list_any};
 ghost use Rattle.hop_event.specs.History.{upto, winner, is_revoked};
 ghost use Rattle.hop_event.specs.Legal.{restart_due, IsWon, AllSettled};

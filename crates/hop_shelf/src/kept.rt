@@ -1,5 +1,5 @@
 //! The runs that a shelf keeps.
-ghost use Rattle.std.specs.Prelude.{◌≡◌, ◌≢◌, ◌<◌, ◌≤◌, ◌++◌, [], ◌∷◌, map, filter, length, All, AllPairs, IfSome, IfNone, slice_get, slice_index_or, MatchOption};
+ghost use Rattle.std.specs.Prelude.{◌≡◌, ◌≢◌, ◌<◌, map, filter, length, All, IfSome, IfNone};
 ghost use Rattle.hop_shelf.specs.Kept.{committed_by, is_other, at_number};
 
 use hop_run::Run;

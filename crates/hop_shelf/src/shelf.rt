@@ -1,5 +1,5 @@
 //! One reducer's state: its history, its coverage and its runs.
-ghost use Rattle.std.specs.Prelude.{◌≡◌, Some, ◌<◌, ◌≤◌, ◌↔◌, ◌++◌, ◌∷◌, [], ℕ, List, length, All, IfOk, OnOk, OnErr, IfErr, IsTrue, vec_len, vec_capacity, true, false, map, filter, MatchOption, slice_index};
+ghost use Rattle.std.specs.Prelude.{◌≡◌, Some, ◌<◌, ◌≤◌, ◌↔◌, [], length, All, IfOk, OnOk, OnErr, IfErr, IsTrue, vec_len, vec_capacity, true, false, map, filter, MatchOption, slice_index};
 ghost use Rattle.hop_base.specs.Run.{restarts_of};
 ghost use Rattle.hop_laws.specs.Blocking.{blocking};
 ghost use Rattle.hop_event.specs.History.{upto, winner, is_revoked};

@@ -1,5 +1,5 @@
 //! Runs that are lent to be merged.
-ghost use Rattle.std.specs.Prelude.{◌≡◌, ◌≢◌, ◌+◌, ◌<◌, ◌≤◌, ◌↔◌, ◌++◌, ◌∷◌, [], ℕ, length, All, AllPairs, IfOk, IfSome, IfNone, OnOk, IsTrue};
+ghost use Rattle.std.specs.Prelude.{◌≡◌, ◌≢◌, ◌+◌, ◌<◌, ◌↔◌, ◌++◌, ℕ, length, IfOk, IfSome, IfNone, IsTrue};
 ghost use Rattle.hop_shelf.specs.Kept.{kept_at, AreApart, HasRun, AreMergeable, OwnersApart, joined_at};
 ghost use Rattle.hop_shelf.specs.Work.{IsMergeOf};
 ghost use Rattle.hop_shelf.specs.Holds.{RunHolds};

@@ -1,6 +1,5 @@
 //! Spills written as bytes.
-ghost use Rattle.std.specs.Prelude.{◌≡◌, ◌<◌, ◌≤◌, ◌^◌, ◌++◌, ℕ, List, [], IfOk, OnOk, length};
-ghost use Rattle.hop_base.specs.Order.{IsValidPair};
+ghost use Rattle.std.specs.Prelude.{◌≡◌, ◌<◌, ◌^◌, ◌++◌, ℕ, List, [], IfOk, OnOk, length};
 ghost use Rattle.hop_spill.specs.declared.spill.Spill.{Spill};
 ghost use Rattle.hop_spill.specs.Spelling.{IsSpill, word, long, counted, pair_text, sheet_text, head_text, spill_text};
 

@@ -1,5 +1,5 @@
 //! The fields of a spill's text.
-ghost use Rattle.std.specs.Prelude.{◌≡◌, ◌≤◌, IfOk};
+ghost use Rattle.std.specs.Prelude.{◌≤◌, IfOk};
 ghost use Rattle.std.specs.Int.{w32, w64};
 ghost use Rattle.hop_spill.specs.Reading.{number_at, word_within, blob_at};
 ghost use Rattle.hop_spill.specs.Answers.{Gives};

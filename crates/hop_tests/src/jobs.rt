@@ -127,34 +127,21 @@ fn reads_a_record_at_its_last_tab(rt: HostRuntime) -> Result<(), Fail> {
 
 #[test]
 fn jobs_through_their_bound(rt: HostRuntime) -> Result<(), Fail> {
-    let alloc = rt.alloc();
-    let wc = Known::Wc(Wc);
-    assert_eq!(rt; wc.name(alloc)?.as_slice(), b"wc".as_slice());
+    let cases: [(Known, &[u8], &[u8], &[u8]); 4] = [
+        (Known::Wc(Wc), b"wc", b" b \ta\r b", b"b\t1\na\r\t1\nb\t1\n"),
+        (Known::Sum(Sum), b"sum", b"b\t3", b"b\t3\n"),
+        (Known::Max(Max), b"max", b"b\t3", b"b\t3\n"),
+        (Known::Top(Top::new(1000)), b"top:1000", b"b\t3", b"b\t3\n"),
+    ];
+    for (job, name, line, text) in cases {
+        assert_eq!(rt; job.name(rt.alloc())?.as_slice(), name);
+        assert!(rt; line.len() <= 131_050);
+        assert_eq!(rt; reduced(rt.alloc(), &job, line)?.as_slice(), text);
+    }
+    let top = Known::Top(Top::new(1));
     assert_eq!(rt;
-        reduced(alloc, &wc, b" b \ta\r b")?.as_slice(),
-        b"b\t1\na\r\t1\nb\t1\n".as_slice()
-    );
-    let sum = Known::Sum(Sum);
-    assert_eq!(rt; sum.name(alloc)?.as_slice(), b"sum".as_slice());
-    assert_eq!(rt;
-        reduced(alloc, &sum, b"b\t3")?.as_slice(),
-        b"b\t3\n".as_slice()
-    );
-    let max = Known::Max(Max);
-    assert_eq!(rt; max.name(alloc)?.as_slice(), b"max".as_slice());
-    assert_eq!(rt;
-        reduced(alloc, &max, b"b\t3")?.as_slice(),
-        b"b\t3\n".as_slice()
-    );
-    let top = Known::Top(Top::new(1000));
-    assert_eq!(rt; top.name(alloc)?.as_slice(), b"top:1000".as_slice());
-    assert_eq!(rt;
-        emitted(alloc, &top, b"b\t3")?.as_slice(),
+        emitted(rt.alloc(), &top, b"b\t3")?.as_slice(),
         b"\t3\n".as_slice()
-    );
-    assert_eq!(rt;
-        reduced(alloc, &top, b"b\t3")?.as_slice(),
-        b"b\t3\n".as_slice()
     );
     Ok(())
 }

@@ -61,15 +61,28 @@ fn what_a_script_says(rt: HostRuntime) -> Result<(), Fail> {
     let alloc = rt.alloc();
     let text = b"restart 1 9\nfail 3 1 7\ndelay 2 40\nrestart 1 2\nfail 3 0 0\nrestart 0 4\n";
     let script = Script::read(alloc, text)?;
-    assert_eq!(rt; script.fails_at(3, 0), Some(0));
-    assert_eq!(rt; script.fails_at(3, 1), Some(7));
-    assert_eq!(rt; script.fails_at(1, 3), None);
-    assert_eq!(rt; script.restarts(1), [2, 9].as_slice());
-    assert_eq!(rt; script.restarts(0), [4].as_slice());
-    assert_eq!(rt; script.restarts(7).len(), 0);
-    assert_eq!(rt; script.restarts(8).len(), 0);
-    assert_eq!(rt; script.delay(2), 40);
-    assert_eq!(rt; script.delay(0), 0);
+    let places = [
+        script.fails_at(3, 0),
+        script.fails_at(3, 1),
+        script.fails_at(1, 3),
+    ];
+    assert_eq!(rt; places, [Some(0), Some(7), None]);
+    let restarts = [
+        script.restarts(1),
+        script.restarts(0),
+        script.restarts(7),
+        script.restarts(8),
+    ];
+    assert_eq!(rt;
+        restarts,
+        [
+            [2, 9].as_slice(),
+            [4].as_slice(),
+            [].as_slice(),
+            [].as_slice()
+        ]
+    );
+    assert_eq!(rt; [script.delay(2), script.delay(0)], [40, 0]);
     Ok(())
 }
 

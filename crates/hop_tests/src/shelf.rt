@@ -2,7 +2,6 @@
 ghost use Rattle.std.specs.Prelude.{◌≡◌, ◌<◌, ◌≤◌, ◌↔◌, Some, [], length, IfOk, OnOk, IsTrue};
 ghost use Rattle.hop_event.specs.History.{winner};
 ghost use Rattle.hop_event.specs.Legal.{IsRange, AllWon};
-ghost use Rattle.hop_records.specs.Records.{BookValue};
 ghost use Rattle.hop_shelf.specs.Names.{book_of, pairs_of};
 ghost use Rattle.hop_tests.specs.Sample.{two_records, two_marks, sample_rules};
 ghost use Rattle.hop_shelf.specs.Sound.{MayGrow, IsParcel};

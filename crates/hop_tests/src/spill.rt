@@ -33,14 +33,15 @@ fn only_pair(spill: &Spill) -> Option<&Pair> {
 #[test]
 fn reads_the_vector(rt: HostRuntime) -> Result<(), Fail> {
     let spill = decode(rt.alloc(), &VECTOR)?;
-    assert_eq!(rt; (spill.split, spill.attempt), (0, 0));
-    assert_eq!(rt; (spill.from, spill.to), (0, 1));
+    assert_eq!(rt;
+        (spill.split, spill.attempt, spill.from, spill.to),
+        (0, 0, 0, 1)
+    );
     let Some(pair) = only_pair(&spill) else {
         return Err(Fail::from("it is not one pair"));
     };
-    assert_eq!(rt; pair.key.as_slice(), b"a".as_slice());
-    assert_eq!(rt; pair.val.n, 1);
-    assert_eq!(rt; pair.val.s.as_slice(), b"".as_slice());
+    let shown = (pair.key.as_slice(), pair.val.n, pair.val.s.as_slice());
+    assert_eq!(rt; shown, (b"a".as_slice(), 1, b"".as_slice()));
     Ok(())
 }
 

@@ -214,9 +214,9 @@ fn gives_the_worked_texts(rt: HostRuntime) -> Result<(), Fail> {
         let folder = with_input(rt.alloc(), input)?;
         let left = left_by(rt.alloc(), line, folder, &mut out)?;
         assert_eq!(rt; left.0, Outcome::Done, "at {line:?}");
-        assert_eq!(rt; left.1.as_slice(), first.as_bytes());
-        assert_eq!(rt; left.2.as_slice(), second.as_bytes());
-        assert_eq!(rt; out.taken(), summary.as_bytes());
+        let texts = [left.1.as_slice(), left.2.as_slice(), out.taken()];
+        let wanted = [first.as_bytes(), second.as_bytes(), summary.as_bytes()];
+        assert_eq!(rt; texts, wanted, "at {line:?}");
     }
     Ok(())
 }
@@ -341,10 +341,13 @@ fn leaves_what_it_says_after_each_fault(rt: HostRuntime) -> Result<(), Fail> {
     ];
     for (call, write, wanted, first, second) in cases {
         let left = met(rt.alloc(), call, write)?;
-        assert_eq!(rt; left.0, wanted, "at {call:?} {write:?}");
-        assert_eq!(rt; left.1.as_slice(), first.as_bytes());
-        assert_eq!(rt; left.2.as_slice(), second.as_bytes());
-        assert_eq!(rt; left.3, Outcome::Done, "again after {call:?} {write:?}");
+        assert_eq!(rt;
+            [left.0, left.3],
+            [wanted, Outcome::Done],
+            "at {call:?} {write:?}"
+        );
+        let texts = [left.1.as_slice(), left.2.as_slice()];
+        assert_eq!(rt; texts, [first.as_bytes(), second.as_bytes()]);
     }
     Ok(())
 }

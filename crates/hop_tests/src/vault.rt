@@ -1,6 +1,4 @@
 //! Spills that are kept and fetched, over folders that work, fail and alter what they hold.
-ghost use Rattle.std.specs.Prelude.{◌≡◌, None};
-ghost use Rattle.hop_ports.specs.Views.{FolderView};
 
 use hop_base::Part;
 use hop_ports::{CleanFolder, Folder, GetFault, MemFolder, PutFault};
@@ -97,8 +95,7 @@ fn fetches_what_was_kept(rt: HostRuntime) -> Result<(), Fail> {
 fn holds_the_texts_of_what_was_kept(rt: HostRuntime) -> Result<(), Fail> {
     let vault = vault_of_both(rt.alloc())?;
     assert_eq!(rt; vault.worker(), 3);
-    assert_eq!(rt; vault.kept(0, 0), 2);
-    assert_eq!(rt; vault.kept(0, 1), 0);
+    assert_eq!(rt; [vault.kept(0, 0), vault.kept(0, 1)], [2, 0]);
     let mut folder = vault.into_folder();
     let held = folder.get("s-0-0-1", 100)?;
     assert_eq!(rt; held.as_slice(), SECOND.as_slice());
@@ -163,10 +160,8 @@ fn notices_altered_bytes(rt: HostRuntime) -> Result<(), Fail> {
     assert!(rt; keep(alloc, &mut vault, &FIRST)?);
     match fetch(alloc, &mut vault, 1)? {
         Err(FetchFault::Damaged { at, kept, found }) => {
-            assert_eq!(rt; at.split, 0);
-            assert_eq!(rt; at.to, 1);
-            assert_eq!(rt; kept, KEPT);
-            assert_eq!(rt; found, FOUND);
+            assert_eq!(rt; (at.split, at.to), (0, 1));
+            assert_eq!(rt; [kept, found], [KEPT, FOUND]);
         }
         Err(FetchFault::NoMemory) => return Err(Fail::from("no memory")),
         _ => return Err(Fail::from("the bytes are altered")),

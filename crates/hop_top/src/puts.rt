@@ -1,5 +1,5 @@
 //! Files that are put one after another, and the summary behind them.
-ghost use Rattle.std.specs.Prelude.{◌≡◌, [], ◌∷◌, IfErr, OnOk, ◌≤◌, string_bytes};
+ghost use Rattle.std.specs.Prelude.{◌≡◌, IfErr, OnOk, string_bytes};
 ghost use Rattle.hop_ports.specs.Causes.{OnlyPut, PutCause};
 ghost use Rattle.hop_ports.specs.Views.{with_file};
 ghost use Rattle.hop_top.specs.Work.{with_files};

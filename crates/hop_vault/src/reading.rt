@@ -1,9 +1,8 @@
 //! Kept spills read back.
-ghost use Rattle.std.specs.Prelude.{◌≡◌, ◌≢◌, ◌<◌, ◌≤◌, ℕ, true, false, None, Some, IfOk, IfErr, IfSome, All, length};
+ghost use Rattle.std.specs.Prelude.{◌≡◌, ◌≢◌, ◌<◌, true, false, None, Some, IfOk, IfErr, IfSome, All, length};
 ghost use Rattle.std.specs.FinMap as map;
 ghost use Rattle.sha2.specs.Sha256.{sha256};
 ghost use Rattle.hop_ports.specs.Causes.{OnlyRead};
-ghost use Rattle.hop_spill.specs.Spelling.{IsSpill, spill_text};
 ghost use Rattle.hop_vault.specs.Rows.{range_of};
 ghost use Rattle.hop_vault.specs.Stored.{name_of, IsStored, AreStored, IsFetched, AreFetched, first_other, sheet_of};
 ghost use Rattle.hop_vault.specs.Reads.{GotCause, IsOpened, OpenedCause, ReadCause, ReadsCause};

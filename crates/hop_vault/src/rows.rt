@@ -1,5 +1,5 @@
 //! The spills that a vault keeps, by split and attempt.
-ghost use Rattle.std.specs.Prelude.{◌≡◌, ◌<◌, ◌≤◌, ◌++◌, ◌∷◌, [], ℕ, OnOk, OnErr, length, vec_len};
+ghost use Rattle.std.specs.Prelude.{◌≡◌, ◌<◌, ◌≤◌, ◌++◌, ◌∷◌, [], OnOk, OnErr, length, vec_len};
 ghost use Rattle.hop_vault.specs.Rows.{row_of, lists_of, list_at, all_but_last, SameRows, AddsTo, TakesFrom, Changes, SameLists};
 
 use crate::kept::Kept;

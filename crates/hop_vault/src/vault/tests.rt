@@ -1,6 +1,5 @@
 //! A vault whose folder holds another text than the one that was kept, with the digest that was kept.
-ghost use Rattle.std.specs.Prelude.{◌≡◌, ◌<◌, IfOk, All};
-ghost use Rattle.hop_vault.specs.Rows.{row_of};
+ghost use Rattle.std.specs.Prelude.{◌<◌};
 
 use super::Vault;
 use crate::kept::{FetchFault, Kept};
