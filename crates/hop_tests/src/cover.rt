@@ -139,32 +139,22 @@ fn two_attempts_of_one_split(rt: HostRuntime) -> Result<(), Fail> {
     lens.push(2)?;
     lens.push(2)?;
     let mut coverage = Coverage::new(rt.alloc(), &lens, true)?;
-    let events = [
-        arrive_by(0, 0, 0, 1, 0),
-        arrive_by(0, 1, 0, 1, 1),
-        revoked(0, 0),
-        Event::Restart,
-        won(0, 1),
+    let steps = [
+        (arrive_by(0, 0, 0, 1, 0), 2500, some(0, 1, false)),
+        (arrive_by(0, 1, 0, 1, 1), 2500, some(0, 1, false)),
+        (revoked(0, 0), 2500, some(1, 1, false)),
+        (Event::Restart, 0, None),
+        (won(0, 1), 0, None),
     ];
-    let progress = [2500, 2500, 2500, 0, 0];
-    let declared = [
-        some(0, 1, false),
-        some(0, 1, false),
-        some(1, 1, false),
-        None,
-        None,
-    ];
-    for (k, e) in events.iter().enumerate() {
-        assert!(rt; fits(&coverage, *e));
-        coverage.note(*e);
-        assert_eq!(rt; coverage.progress(), progress[k]);
-        assert_eq!(rt; coverage.splits(), 2);
-        assert_eq!(rt; coverage.at(0), declared[k]);
+    for (e, progress, declared) in steps {
+        assert!(rt; coverage.splits() == 2 && fits(&coverage, e));
+        coverage.note(e);
+        assert!(rt; coverage.splits() == 2);
+        assert_eq!(rt; (coverage.progress(), coverage.at(0)), (progress, declared));
     }
-    assert_eq!(rt; coverage.splits(), 2);
-    assert_eq!(rt; coverage.upto(0, 1), 0);
+    assert!(rt; coverage.splits() == 2);
+    assert_eq!(rt; (coverage.upto(0, 1), coverage.winner(0)), (0, Some(1)));
     assert!(rt; coverage.is_revoked(0, 0));
-    assert_eq!(rt; coverage.winner(0), Some(1));
     Ok(())
 }
 

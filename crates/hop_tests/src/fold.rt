@@ -3,7 +3,7 @@ ghost use Rattle.std.specs.Prelude.{◌≤◌, length};
 
 use hop_base::{Blob, NoMemory, Pair, Text, Texts, Val};
 use hop_fold::{block, block_lines};
-use hop_jobs::{Known, Max, Sum, Top, Wc};
+use hop_jobs::{Sum, Top};
 use hop_laws::Job;
 use hop_records::{Book, BookFault};
 use std::alloc::Global;
@@ -70,44 +70,6 @@ fn labelled(alloc: Global, texts: &Texts) -> Result<Vec<u8>, BookFault> {
         }
     }
     Ok(all)
-}
-
-#[test]
-fn blocks_by_each_job(rt: HostRuntime) -> Result<(), Fail> {
-    let alloc = rt.alloc();
-    let words = b"a b\nb c\na a\n";
-    let wc = Known::Wc(Wc);
-    assert_eq!(rt;
-        blocked(alloc, &wc, words, 1)?.as_slice(),
-        b":a\t3\nb\t2\nc\t1\n".as_slice()
-    );
-    assert_eq!(rt;
-        blocked(alloc, &wc, words, 2)?.as_slice(),
-        b":b\t2\n:a\t3\nc\t1\n".as_slice()
-    );
-    let numbers = b"k\t18446744073709551615\nk\t1\nk\t18446744073709551616\nk\t\nk\n";
-    let sum = Known::Sum(Sum);
-    assert_eq!(rt;
-        blocked(alloc, &sum, numbers, 1)?.as_slice(),
-        b":k\t18446744073709551615\n".as_slice()
-    );
-    let best = b"b\t3\na\t3\nc\t5\nb\t3\n";
-    let two = Known::Top(Top::new(2));
-    assert_eq!(rt;
-        blocked(alloc, &two, best, 1)?.as_slice(),
-        b":c\t5\na\t3\n".as_slice()
-    );
-    let four = Known::Top(Top::new(4));
-    assert_eq!(rt;
-        blocked(alloc, &four, best, 1)?.as_slice(),
-        b":c\t5\na\t3\nb\t3\nb\t3\n".as_slice()
-    );
-    let max = Known::Max(Max);
-    assert_eq!(rt;
-        blocked(alloc, &max, best, 1)?.as_slice(),
-        b":a\t3\nb\t3\nc\t5\n".as_slice()
-    );
-    Ok(())
 }
 
 #[test]

@@ -39,7 +39,7 @@ fn reduce_each<J: Job>(
     text: &mut Vec<u8>,
 ) -> Result<(), NoMemory> {
     for val in vals {
-        job.reduce(alloc, key, &alone(alloc, val)?, text)?;
+        job.reduce(alloc, key, &[val], text)?;
     }
     Ok(())
 }

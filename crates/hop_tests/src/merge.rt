@@ -80,12 +80,12 @@ fn text_in_order<J: Job>(
     Ok(text)
 }
 
-// The pairs of a run: each key and the last digit of its number.
+// The pairs of a run: each key and its number, as a digit.
 fn shown(alloc: Global, run: &Run) -> Result<Vec<u8>, AllocError> {
     let mut text = Vec::new(alloc);
     for pair in run.sheet().as_slice() {
         text.extend_from_slice(pair.key.as_slice())?;
-        text.push(b'0' + (pair.val.n % 10) as u8)?;
+        text.push(b'0' + pair.val.n.min(9) as u8)?;
     }
     Ok(text)
 }

@@ -16,8 +16,14 @@ fn a_folder_in_memory_fails_where_it_is_told(rt: HostRuntime) -> Result<(), Fail
         folder.get("b", 5).err(),
         folder.get("a", 5).err(),
     ];
-    let wanted = [GetFault::TooLong, GetFault::Missing, GetFault::Failed];
-    assert_eq!(rt; faults, wanted.map(Some));
+    assert_eq!(rt;
+        faults,
+        [
+            Some(GetFault::TooLong),
+            Some(GetFault::Missing),
+            Some(GetFault::Failed)
+        ]
+    );
     assert_eq!(rt; folder.put("b", b""), Err(PutFault::Failed));
     assert_eq!(rt; folder.get("b", 5).err(), Some(GetFault::Missing));
     Ok(())
