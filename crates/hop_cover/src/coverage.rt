@@ -8,6 +8,7 @@ ghost use Rattle.hop_cover.specs.Rows.{row_declared, cleared, IsRow};
 ghost use Rattle.hop_cover.specs.Table.{FitsSplit};
 
 use crate::row::{self, Row, Try};
+use hop_base::limits::MAX_MARK;
 use hop_base::{Lens, Listed, NoMemory};
 use hop_event::{Declared, Event};
 use std::alloc::Global;
@@ -47,7 +48,7 @@ fn score(row: &Row, tentative: bool, len: u32) -> u64
 {
     match row::declared(row, tentative) {
         None => 0,
-        Some(d) => 10000 * u64::from(d.records) / u64::from(len),
+        Some(d) => MAX_MARK as u64 * u64::from(d.records) / u64::from(len),
     }
 }
 
@@ -129,7 +130,7 @@ impl Coverage {
     {
         let lens: &[u32] = &self.lens;
         if lens.is_empty() {
-            10000
+            MAX_MARK
         } else {
             (self.total / lens.len() as u64) as u16
         }

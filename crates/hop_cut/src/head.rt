@@ -7,7 +7,7 @@ ghost use Rattle.hop_cut.specs.Parts.{IsFirstPart, IsSplitsPart, SplitsStop};
 
 use crate::lines::{job_line, number_line, reducer_line, split_line};
 use crate::numbers::after;
-use hop_base::limits::MAX_SPLITS;
+use hop_base::limits::{MAX_MARK, MAX_SPLITS};
 use hop_base::{Listed, NoMemory};
 use hop_cover::{Declared, Declares};
 use std::alloc::Global;
@@ -101,13 +101,13 @@ fn first_lines(text: &[u8]) -> Result<First<'_>, u32>
     let Some(rest) = job_line(rest) else {
         return Err(2);
     };
-    let Some((mark, rest)) = number_line(b"mark ", 1, 10_000, rest) else {
+    let Some((mark, rest)) = number_line(b"mark ", 1, MAX_MARK as u32, rest) else {
         return Err(3);
     };
     let Some((reducer, reducers, rest)) = reducer_line(rest) else {
         return Err(4);
     };
-    let Some((progress, rest)) = number_line(b"progress ", 0, 10_000, rest) else {
+    let Some((progress, rest)) = number_line(b"progress ", 0, MAX_MARK as u32, rest) else {
         return Err(5);
     };
     Ok(First {

@@ -13,8 +13,8 @@ use std::alloc::Global;
 
 /// The blocking job's text of each of `r` partitions, 1 to 8, over the records of a book: what the
 /// programming model of MapReduce (OSDI 2004) gives, with the keys of a partition in ascending order.
-/// It keeps about as many pairs as combine leaves of them; up to 32,768 of a partition are kept before
-/// any are combined.
+/// It keeps about as many pairs as combine leaves of them; some 32,768 in all partitions together are
+/// kept before any are combined.
 pub fn block<J: Job>(alloc: Global, job: &J, book: &Book, r: u8) -> Result<Texts, NoMemory>
     requires some { 1 ≤ r }
     requires few { r ≤ 8 }
