@@ -81,6 +81,16 @@ holds part-0 'a>3 b>2 c>1 '
 holds other 'mine '
 end
 
+begin 'a link where the file beside goes is not followed'
+printf "$counts" >in.txt
+echo mine >other
+ln -s other .hop-part-0
+run block wc in.txt
+ended 0 '' 'done records=3 parts=1' 'in.txt other part-0 '
+holds part-0 'a>3 b>2 c>1 '
+holds other 'mine '
+end
+
 begin 'sums stop at the greatest number'
 printf 'k\t18446744073709551615\nk\t1\nk\t18446744073709551616\nk\t\nk\n' >in
 run block sum in

@@ -7,7 +7,7 @@ use crate::folder::{Folder, GetFault, PutFault};
 use hop_base::NoMemory;
 use std::alloc::Global;
 use std::fs::OpenFile;
-use std::io::{ErrorKind, Read};
+use std::io::{ErrorKind, Read, Write};
 use std::rt::Files;
 use std::{fs, io};
 
@@ -81,12 +81,20 @@ impl<R: Files + AllocGlobal + Drop> DiskFolder<R> {
         }
     }
 
+    // Writes a file that wasn't there. What an earlier call left under its name goes first, so that nothing is
+    // written through a link.
+    fn write_anew(&self, path: &str, bytes: &[u8]) -> io::Result<()> {
+        let _ = fs::remove_file(&self.rt, path);
+        let mut file = fs::File::create_new(&self.rt, path)?;
+        file.write_all(bytes)
+    }
+
     // Makes the directory where it is absent, writes the file beside, and renames it.
     fn write_by_way_of(&self, beside: &str, path: &str, bytes: &[u8]) -> io::Result<()> {
         if !fs::exists(&self.rt, self.path.as_str())? {
             fs::create_dir(&self.rt, self.path.as_str())?;
         }
-        let written = match fs::write(&self.rt, beside, bytes) {
+        let written = match self.write_anew(beside, bytes) {
             Ok(()) => fs::rename(&self.rt, beside, path),
             Err(error) => Err(error),
         };

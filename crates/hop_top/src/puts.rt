@@ -2,6 +2,7 @@
 ghost use Rattle.std.specs.Prelude.{◌≡◌, IfErr, OnOk, string_bytes};
 ghost use Rattle.hop_ports.specs.Causes.{OnlyPut, PutCause};
 ghost use Rattle.hop_ports.specs.Views.{with_file};
+ghost use Rattle.hop_top.specs.Puts.{HandsOut, PutsCause, files_in};
 ghost use Rattle.hop_top.specs.Work.{with_files};
 
 use crate::outcome::Outcome;
@@ -14,8 +15,6 @@ pub struct NamedFile {
     pub name: String,
     pub bytes: Text,
 }
-
-ghost use Rattle.hop_top.specs.Puts.{HandsOut, PutsCause, files_in};
 
 // Puts a file.
 fn put_file<F: Folder>(folder: &mut F, file: &NamedFile) -> Result<(), PutFault>
