@@ -20,12 +20,16 @@ use Rattle.hop_laws.proofs.Emitted.{emitted_more, valid_partition}
 use Rattle.hop_laws.proofs.StandsLaws.{stands_sorted, stands_merged, stands_combined, stands_itself, stands_through, red_stands}
 use Rattle.hop_fold.specs.Gathering.{Scattered, KeepsStanding, AllKeepStanding, Gathers}
 
+-- pairs in order stand for what the pairs stand for
+pub sorted_stands : (reduce : List ℕ → List Val → List ℕ) (pairs sheet : List Pair) → IsPermutation pairs sheet → KeepsStanding reduce pairs sheet
+sorted_stands reduce pairs sheet same = λ ps stands. stands_through reduce sheet pairs ps (stands_sorted reduce pairs sheet same) stands
+
 -- combined pairs stand for what the pairs stand for
 pub combined_stands : (combine : List ℕ → List Val → List Val) (reduce : List ℕ → List Val → List ℕ) (pairs sheet fewer : List Pair) → AlwaysCombinesWell combine → ReducesAlike combine reduce → IsPermutation pairs sheet → All IsValidPair sheet → fewer ≡ combined_pairs combine sheet → KeepsStanding reduce pairs fewer
 combined_stands combine reduce pairs sheet fewer well alike same valid e = λ ps stands.
     stands_combined combine reduce sheet fewer ps well alike valid
     (subst (λ qs. IsPermutation (combined_pairs combine sheet) qs) (sym e) (IsPermutation-refl (combined_pairs combine sheet)))
-    (stands_through reduce sheet pairs ps (stands_sorted reduce pairs sheet same) stands)
+    (sorted_stands reduce pairs sheet same ps stands)
 
 -- ---- one more pair
 

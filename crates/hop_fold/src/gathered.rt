@@ -15,7 +15,7 @@ use std::marker::Model;
 // for a processor's cache.
 const LEAST: usize = 32_768;
 
-// Pairs of one partition. They are combined when they have doubled since the last time, so there are
+// Pairs of one partition. They are combined each time that they have grown to some times as many, so there are
 // about as many as combine leaves, however many map emits.
 #[derive(Drop)]
 pub(crate) struct Gathered {
@@ -53,14 +53,18 @@ impl Gathered {
         Ok(())
     }
 
-    // Combines the pairs if they have doubled since the last time.
+    // Combines the pairs if there are as many as there may be. Then there may be twice as many as are left, or
+    // four times where nearly all are.
     fn combine_if_grown<J: Job>(&mut self, alloc: Global, job: &J) -> Result<(), NoMemory>
         ensures { OnOk result (KeepsStanding (J.meaning job.now).reduced self.old self.new) }
     {
-        if self.pairs.len() >= self.limit {
+        let before = self.pairs.len();
+        if before >= self.limit {
             let pairs = std::mem::replace(&mut self.pairs, Vec::new(alloc));
             self.pairs = combined(alloc, job, pairs)?;
-            self.limit = self.pairs.len().saturating_mul(2).max(self.least);
+            let left = self.pairs.len();
+            let times = if left == before { 4 } else { 2 };
+            self.limit = left.saturating_mul(times).max(self.least);
         }
         Ok(())
     }
@@ -76,11 +80,30 @@ impl Gathered {
     }
 }
 
-// The pairs in order and combined.
+// Whether at most a quarter of these pairs, which are in order, have the key of the pair before them: combine
+// would leave nearly all of them.
+fn are_mostly_apart(pairs: &[Pair]) -> bool {
+    let mut left = pairs.len() / 4;
+    for k in 1..pairs.len() {
+        if pairs[k - 1].key == pairs[k].key {
+            if left == 0 {
+                return false;
+            }
+            left -= 1;
+        }
+    }
+    true
+}
+
+// The pairs in order, and combined where that leaves a good deal fewer.
 fn combined<J: Job>(alloc: Global, job: &J, pairs: Vec<Pair>) -> Result<Vec<Pair>, NoMemory>
     ensures { IfOk result (λ fewer. KeepsStanding (J.meaning job.now).reduced pairs.items fewer.items) }
 {
     let sheet = Sheet::from_pairs(pairs);
+    if are_mostly_apart(sheet.as_slice()) {
+        let sorted = sheet.into_vec();
+        return Ok(sorted);
+    }
     let fewer = combine_sheet(alloc, job, &sheet)?;
     let _known = sheet.as_slice();
     Ok(fewer.into_vec())

@@ -1,6 +1,10 @@
-use Rattle.std.proofs.Common.{◌∙◌}
-use Rattle.hop_fold.proofs.GatheringLaws.{combined_stands}
+use Rattle.std.proofs.Common.{sym, subst, ◌∙◌}
+use Rattle.std.specs.List.Sorted.{IsPermutation}
+use Rattle.hop_fold.proofs.GatheringLaws.{sorted_stands, combined_stands}
 use Rattle.hop_fold.proofs.gathered.combined.Goals as goal
+
+pub returns-then-are_mostly_apart : goal.returns-then-are_mostly_apart
+returns-then-are_mostly_apart g c = sorted_stands (g.J.Job.meaning c.args.job.now).reduced c.args.pairs.items c.into_vec-sorted.result.items (subst (IsPermutation c.args.pairs.items) (sym c.into_vec-sorted.ensures.value) c.from_pairs-sheet.ensures.same)
 
 pub returns : goal.returns
 returns g c =
