@@ -56,71 +56,26 @@ fn reduced<J: Job>(alloc: Global, job: &J, line: &[u8]) -> Result<Vec<u8>, NoMem
     Ok(text)
 }
 
-// A record, and what is to come of it.
-#[derive(Clone, Copy)]
-struct Row {
-    line: &'static [u8],
-    text: &'static [u8],
-}
-
 #[test]
 fn reads_a_record_at_its_last_tab(rt: HostRuntime) -> Result<(), Fail> {
     let alloc = rt.alloc();
-    let rows = [
-        Row {
-            line: b"5",
-            text: b"",
-        },
-        Row {
-            line: b"\t7",
-            text: b"\t7\n",
-        },
-        Row {
-            line: b"a\tb\t7",
-            text: b"a\tb\t7\n",
-        },
-        Row {
-            line: b"k\t00000000000000000007",
-            text: b"k\t7\n",
-        },
-        Row {
-            line: b"k\t000000000000000000007",
-            text: b"",
-        },
-        Row {
-            line: b"k\t007",
-            text: b"k\t7\n",
-        },
-        Row {
-            line: b"k\t18446744073709551615",
-            text: b"k\t18446744073709551615\n",
-        },
-        Row {
-            line: b"k\t18446744073709551616",
-            text: b"",
-        },
-        Row {
-            line: b"k\t",
-            text: b"",
-        },
-        Row {
-            line: b"k\t+7",
-            text: b"",
-        },
-        Row {
-            line: b"k\t-7",
-            text: b"",
-        },
-        Row {
-            line: b"k\t7\r",
-            text: b"",
-        },
+    let rows: [(&[u8], &[u8]); 12] = [
+        (b"5", b""),
+        (b"\t7", b"\t7\n"),
+        (b"a\tb\t7", b"a\tb\t7\n"),
+        (b"k\t00000000000000000007", b"k\t7\n"),
+        (b"k\t000000000000000000007", b""),
+        (b"k\t007", b"k\t7\n"),
+        (b"k\t18446744073709551615", b"k\t18446744073709551615\n"),
+        (b"k\t18446744073709551616", b""),
+        (b"k\t", b""),
+        (b"k\t+7", b""),
+        (b"k\t-7", b""),
+        (b"k\t7\r", b""),
     ];
-    for row in &rows {
-        if row.line.len() <= 131_050 {
-            let text = emitted(alloc, &Sum, row.line)?;
-            assert_eq!(rt; text.as_slice(), row.text);
-        }
+    for (line, wanted) in rows {
+        assert!(rt; line.len() <= 131_050);
+        assert_eq!(rt; emitted(alloc, &Sum, line)?.as_slice(), wanted);
     }
     Ok(())
 }
