@@ -1,5 +1,5 @@
 //! A folder on disk.
-ghost use Rattle.std.specs.Prelude.{◌≡◌, ◌≤◌, IfOk, IfErr, length, vec_len};
+ghost use Rattle.std.specs.Prelude.{◌≡◌, ◌≤◌, IfOk, IfErr, OnOk, length, vec_len};
 ghost use Rattle.hop_ports.specs.Causes.{OnlyRead, OnlyPut, GetCause, PutCause};
 
 use crate::count::raised;
@@ -170,6 +170,7 @@ impl<R: Files + AllocGlobal + Drop> Folder for DiskFolder<R> {
 
     fn get(&mut self, name: &str, max: u64) -> Result<Vec<u8>, GetFault>
         ensures left { OnlyRead (disk_view self.old) (disk_view self.new) }
+        ensures no_fault { OnOk result ((disk_view self.new).gets ≡ (disk_view self.old).gets) }
         ensures bound { IfOk result (λ bytes. vec_len bytes ≤ max) }
         ensures cause { IfErr result (GetCause (disk_view self.old) (disk_view self.new) name.now max) }
         ensures counted { GetCounted (disk_view self.old).gets result (disk_view self.new).gets }
@@ -186,6 +187,7 @@ impl<R: Files + AllocGlobal + Drop> Folder for DiskFolder<R> {
 
     fn put(&mut self, name: &str, bytes: &[u8]) -> Result<(), PutFault>
         ensures counts { OnlyPut (disk_view self.old) (disk_view self.new) }
+        ensures no_fault { OnOk result ((disk_view self.new).puts ≡ (disk_view self.old).puts) }
         ensures cause { IfErr result (PutCause (disk_view self.old) (disk_view self.new) name.now bytes.now) }
         ensures counted { PutCounted (disk_view self.old).puts result (disk_view self.new).puts }
     {

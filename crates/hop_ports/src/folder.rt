@@ -38,8 +38,8 @@ pub enum PutFault {
 
 /// Bytes by name. A folder may tell contracts what it holds, as one in memory does, or not, as one on
 /// disk. It has a count of faults in gets and one of faults in puts, and says itself which calls raise
-/// them: `Failed` always does, and `NoMemory` never. Neither count falls, and one that stands at
-/// 2^64 - 1 counts as risen.
+/// them: `Failed` always does, and a call that succeeds or finds no memory never, so that a fault has its
+/// answer. Neither count falls, and one that stands at 2^64 - 1 counts as risen.
 pub trait Folder {
     /// What the folder holds, where it tells it, and its two counts of faults.
     ghost seen: { Self → FolderView };
@@ -51,6 +51,7 @@ pub trait Folder {
     /// the count rose.
     fn get(&mut self, name: &str, max: u64) -> Result<Vec<u8>, GetFault>
         ensures left { OnlyRead (seen self.old) (seen self.new) }
+        ensures no_fault { OnOk result ((seen self.new).gets ≡ (seen self.old).gets) }
         ensures found { IfOk result (λ bytes. IfSome (seen self.old).held (λ files. map.get files name.now ≡ Some bytes.items)) }
         ensures bound { IfOk result (λ bytes. vec_len bytes ≤ max) }
         ensures cause { IfErr result (GetCause (seen self.old) (seen self.new) name.now max) };
@@ -58,6 +59,7 @@ pub trait Folder {
     /// Afterwards the name has these bytes, and all else is as before.
     fn put(&mut self, name: &str, bytes: &[u8]) -> Result<(), PutFault>
         ensures counts { OnlyPut (seen self.old) (seen self.new) }
+        ensures no_fault { OnOk result ((seen self.new).puts ≡ (seen self.old).puts) }
         ensures done { OnOk result ((seen self.new).held ≡ with_file (seen self.old).held name.now bytes.now) }
         ensures cause { IfErr result (PutCause (seen self.old) (seen self.new) name.now bytes.now) };
 }

@@ -63,6 +63,7 @@ impl Folder for MemFolder {
 
     fn get(&mut self, name: &str, max: u64) -> Result<Vec<u8>, GetFault>
         ensures left { OnlyRead (memory_view self.old) (memory_view self.new) }
+        ensures no_fault { OnOk result ((memory_view self.new).gets ≡ (memory_view self.old).gets) }
         ensures found { IfOk result (λ bytes. IfSome (memory_view self.old).held (λ files. map.get files name.now ≡ Some bytes.items)) }
         ensures bound { IfOk result (λ bytes. vec_len bytes ≤ max) }
         ensures cause { IfErr result (GetCause (memory_view self.old) (memory_view self.new) name.now max) }
@@ -79,6 +80,7 @@ impl Folder for MemFolder {
 
     fn put(&mut self, name: &str, bytes: &[u8]) -> Result<(), PutFault>
         ensures counts { OnlyPut (memory_view self.old) (memory_view self.new) }
+        ensures no_fault { OnOk result ((memory_view self.new).puts ≡ (memory_view self.old).puts) }
         ensures done { OnOk result ((memory_view self.new).held ≡ with_file (memory_view self.old).held name.now bytes.now) }
         ensures cause { IfErr result (PutCause (memory_view self.old) (memory_view self.new) name.now bytes.now) }
         ensures failing { (result ≡ Err PutFault.Failed) ↔ IsTrue (fails_next self.old) }

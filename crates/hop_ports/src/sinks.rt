@@ -63,6 +63,7 @@ impl Sink for MemSink {
 
     fn write(&mut self, bytes: &[u8]) -> Result<(), SayFault>
         ensures counts { (memory_sink self.old).faults ≤ (memory_sink self.new).faults }
+        ensures no_fault { OnOk result ((memory_sink self.new).faults ≡ (memory_sink self.old).faults) }
         ensures done { OnOk result ((memory_sink self.new).taken ≡ appended (memory_sink self.old).taken bytes.now) }
         ensures cause { IfErr result (SayCause (memory_sink self.old) (memory_sink self.new) bytes.now) }
         ensures failing { (result ≡ Err SayFault.Failed) ↔ IsTrue (write_fails_next self.old) }

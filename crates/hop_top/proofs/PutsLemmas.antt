@@ -35,9 +35,9 @@ rose_later before middle after later rose = omega arith
 
 -- a put that failed after the first files were put
 pub puts_cause : (before middle after : FolderView) (files : List NamedFile) (i : ℕ) (file : NamedFile) (fault : PutFault)
-    → OnlyPut before middle → middle.held ≡ with_files before.held (files_in (take i files)) → i < length files → file ≡ get_or files i file
+    → OnlyPut before middle → middle.puts ≡ before.puts → middle.held ≡ with_files before.held (files_in (take i files)) → i < length files → file ≡ get_or files i file
     → PutCause middle after (string_bytes file.name) file.bytes fault → PutsCause before after (files_in files) fault
-puts_cause before middle after files i file Failed only held within is cause = (
+puts_cause before middle after files i file Failed only quiet held within is cause = (
   rose_later before.puts middle.puts after.puts only.puts cause.0,
   elim cause.1 [
     | inl same ↦ (i, same ∙ held ∙ ap (with_files before.held) (sym (take-files_in i files)))
@@ -48,5 +48,5 @@ puts_cause before middle after files i file Failed only held within is cause = (
     )
   ],
 )
-puts_cause before middle after files i file NoMemory only held within is cause =
-    (i, cause.0 ∙ held ∙ ap (with_files before.held) (sym (take-files_in i files)))
+puts_cause before middle after files i file NoMemory only quiet held within is cause =
+    ((i, cause.0 ∙ held ∙ ap (with_files before.held) (sym (take-files_in i files))), cause.1 ∙ quiet)

@@ -1,4 +1,5 @@
 pub mod Complete
+pub mod Faults
 pub mod Meets
 pub mod Puts
 pub mod Reads

@@ -21,10 +21,10 @@ files_in files = map file_of files
 abbrev pub PutFirst : FolderView → FolderView → Puts → Type 0
 PutFirst old new files = (k : ℕ) × (new.held ≡ with_files old.held (take k files))
 
--- why not all files were put, and what was left
+-- why not all files were put, and what was left; where memory was wanting, no put failed
 abbrev pub PutsCause : FolderView → FolderView → Puts → PutFault → Type 0
 PutsCause old new files Failed = Rose old.puts new.puts × PutFirst old new files
-PutsCause old new files NoMemory = PutFirst old new files
+PutsCause old new files NoMemory = PutFirst old new files × (new.puts ≡ old.puts)
 
 module _ (old new : FolderView) (out_old out_new : SinkView) (files : Puts) (summary : List ℕ) where
   -- the first files were put and nothing was written

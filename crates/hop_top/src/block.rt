@@ -3,6 +3,7 @@ ghost use Rattle.std.specs.Prelude.{◌≡◌, ◌<◌, ◌≤◌, true, IfOk, l
 ghost use Rattle.hop_jobs.specs.Known.{known_meaning};
 ghost use Rattle.hop_words.specs.Names.{is_name};
 ghost use Rattle.hop_words.specs.Options.{block as asked_block, settings_of};
+ghost use Rattle.hop_top.specs.Faults.{FaultsAnswered};
 ghost use Rattle.hop_top.specs.Meets.{MeetsCommand};
 ghost use Rattle.hop_top.specs.Puts.{files_in};
 ghost use Rattle.hop_top.specs.Work.{block_summary, part_files, part_name};
@@ -60,7 +61,8 @@ pub fn block<F: Folder, O: Sink>(
     out: &mut O,
 ) -> Outcome
     requires { is_name input.now ≡ true }
-    ensures { MeetsCommand (F.seen folder.old) (F.seen folder.new) (O.seen out.old) (O.seen out.new) (asked_block (known_meaning job.now) input.now) (settings_of settings.now) result }
+    ensures meets { MeetsCommand (F.seen folder.old) (F.seen folder.new) (O.seen out.old) (O.seen out.new) (asked_block (known_meaning job.now) input.now) (settings_of settings.now) result }
+    ensures answered { FaultsAnswered (F.seen folder.old) (F.seen folder.new) (O.seen out.old) (O.seen out.new) result }
 {
     let reducers = settings.reducers;
     let bytes = match read_file(folder, File::Input, file_name(input), MAX_INPUT) {

@@ -2,6 +2,7 @@
 ghost use Rattle.std.specs.Prelude.{◌≡◌, IfErr, OnOk, string_bytes};
 ghost use Rattle.hop_ports.specs.Causes.{OnlyPut, PutCause};
 ghost use Rattle.hop_ports.specs.Views.{with_file};
+ghost use Rattle.hop_top.specs.Faults.{FaultsAnswered};
 ghost use Rattle.hop_top.specs.Puts.{HandsOut, PutsCause, files_in};
 ghost use Rattle.hop_top.specs.Work.{with_files};
 
@@ -19,6 +20,7 @@ pub struct NamedFile {
 // Puts a file.
 fn put_file<F: Folder>(folder: &mut F, file: &NamedFile) -> Result<(), PutFault>
     ensures counts { OnlyPut (F.seen folder.old) (F.seen folder.new) }
+    ensures no_fault { OnOk result ((F.seen folder.new).puts ≡ (F.seen folder.old).puts) }
     ensures done { OnOk result ((F.seen folder.new).held ≡ with_file (F.seen folder.old).held (string_bytes file.now.name) file.now.bytes) }
     ensures cause { IfErr result (PutCause (F.seen folder.old) (F.seen folder.new) (string_bytes file.now.name) file.now.bytes) }
 {
@@ -28,6 +30,7 @@ fn put_file<F: Folder>(folder: &mut F, file: &NamedFile) -> Result<(), PutFault>
 // Puts the files in order, up to the first that fails.
 fn put_files<F: Folder>(folder: &mut F, files: &[NamedFile]) -> Result<(), PutFault>
     ensures counts { OnlyPut (F.seen folder.old) (F.seen folder.new) }
+    ensures no_fault { OnOk result ((F.seen folder.new).puts ≡ (F.seen folder.old).puts) }
     ensures done { OnOk result ((F.seen folder.new).held ≡ with_files (F.seen folder.old).held (files_in files.now)) }
     ensures cause { IfErr result (PutsCause (F.seen folder.old) (F.seen folder.new) (files_in files.now)) }
 {
@@ -47,7 +50,8 @@ pub fn hand_out<F: Folder, O: Sink>(
     files: &[NamedFile],
     summary: &str,
 ) -> Outcome
-    ensures { HandsOut (F.seen folder.old) (F.seen folder.new) (O.seen out.old) (O.seen out.new) (files_in files.now) summary.now result }
+    ensures hands { HandsOut (F.seen folder.old) (F.seen folder.new) (O.seen out.old) (O.seen out.new) (files_in files.now) summary.now result }
+    ensures answered { FaultsAnswered (F.seen folder.old) (F.seen folder.new) (O.seen out.old) (O.seen out.new) result }
 {
     match put_files(folder, files) {
         Ok(()) => match out.write(summary.as_bytes()) {

@@ -1,5 +1,5 @@
 //! How the files that a command names are read.
-ghost use Rattle.std.specs.Prelude.{◌≤◌, IfOk, IfErr, vec_len};
+ghost use Rattle.std.specs.Prelude.{◌≡◌, ◌≤◌, IfOk, IfErr, OnOk, vec_len};
 ghost use Rattle.hop_ports.specs.Causes.{OnlyRead};
 ghost use Rattle.hop_top.specs.Reads.{ReadsAs, ReadFault};
 
@@ -14,6 +14,7 @@ pub fn read_file<F: Folder>(
     most: u64,
 ) -> Result<Vec<u8>, Outcome>
     ensures left { OnlyRead (F.seen folder.old) (F.seen folder.new) }
+    ensures no_fault { OnOk result ((F.seen folder.new).gets ≡ (F.seen folder.old).gets) }
     ensures read { IfOk result (λ bytes. ReadsAs (F.seen folder.old) (record { file = file; name = name.now; most = most }) bytes.items) }
     ensures bound { IfOk result (λ bytes. vec_len bytes ≤ most) }
     ensures fault { IfErr result (ReadFault (F.seen folder.old) (F.seen folder.new) (record { file = file; name = name.now; most = most })) }

@@ -2,6 +2,7 @@
 ghost use Rattle.std.specs.Prelude.{◌≡◌, map, vec_len};
 ghost use Rattle.hop_words.specs.Options.{HasNames, asked, command_of, settings_of};
 ghost use Rattle.hop_top.specs.Complete.{IsComplete};
+ghost use Rattle.hop_top.specs.Faults.{FaultsAnswered};
 ghost use Rattle.hop_top.specs.Meets.{Meets, MeetsCommand};
 
 use crate::block::block;
@@ -30,7 +31,8 @@ fn run<F: Folder, O: Sink>(
     out: &mut O,
 ) -> Outcome
     requires { HasNames command.now }
-    ensures { MeetsCommand (F.seen folder.old) (F.seen folder.new) (O.seen out.old) (O.seen out.new) (command_of command.now) (settings_of settings.now) result }
+    ensures meets { MeetsCommand (F.seen folder.old) (F.seen folder.new) (O.seen out.old) (O.seen out.new) (command_of command.now) (settings_of settings.now) result }
+    ensures answered { FaultsAnswered (F.seen folder.old) (F.seen folder.new) (O.seen out.old) (O.seen out.new) result }
 {
     match command {
         Command::Block { job, input } => block(alloc, job, input, settings, folder, out),
@@ -39,7 +41,8 @@ fn run<F: Folder, O: Sink>(
 
 // Does what the words ask for.
 fn answer<F: Folder, O: Sink>(alloc: Global, words: &Words, folder: &mut F, out: &mut O) -> Outcome
-    ensures { Meets (F.seen folder.old) (F.seen folder.new) (O.seen out.old) (O.seen out.new) (asked words.now) result }
+    ensures meets { Meets (F.seen folder.old) (F.seen folder.new) (O.seen out.old) (O.seen out.new) (asked words.now) result }
+    ensures answered { FaultsAnswered (F.seen folder.old) (F.seen folder.new) (O.seen out.old) (O.seen out.new) result }
 {
     match read_words(alloc, words) {
         Ok(options) => run(alloc, &options.command, &options.settings, folder, out),
@@ -62,6 +65,7 @@ pub fn hop_plain<F: Folder, V: Folder, O: Sink>(
 ) -> Handed<Outcome, F, V>
     requires { vec_len spills ≡ 8 }
     ensures meets { Meets (F.seen folder) (F.seen result.folder) (O.seen out.old) (O.seen out.new) (asked words.now) result.answer }
+    ensures answered { FaultsAnswered (F.seen folder) (F.seen result.folder) (O.seen out.old) (O.seen out.new) result.answer }
     ensures complete { IsComplete (F.seen folder) (F.seen result.folder) (O.seen out.old) (O.seen out.new) (asked words.now) result.answer }
     ensures spills { map V.seen result.spills.items ≡ map V.seen spills.items }
 {
@@ -92,6 +96,7 @@ where
     G: Gate + Sync,
     requires { vec_len spills ≡ 8 }
     ensures meets { Meets (F.seen folder) (F.seen result.folder) (O.seen out.old) (O.seen out.new) (asked words.now) result.answer }
+    ensures answered { FaultsAnswered (F.seen folder) (F.seen result.folder) (O.seen out.old) (O.seen out.new) result.answer }
     ensures complete { IsComplete (F.seen folder) (F.seen result.folder) (O.seen out.old) (O.seen out.new) (asked words.now) result.answer }
     ensures spills { map V.seen result.spills.items ≡ map V.seen spills.items }
 {

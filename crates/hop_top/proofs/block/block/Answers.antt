@@ -29,8 +29,8 @@ pub part_files-requires : goal.part_files-requires
 part_files-requires g c =
     omega (arith, c.args.settings.now.few_reducers, ap {B = _} length c.in-Ok-block.ensures, blocking_texts-length (known_meaning c.args.job.now) c.in-Ok-from_vec.book.records c.args.settings.now.reducers)
 
-pub returns : goal.returns
-returns g c =
+pub returns-clause-meets : goal.returns-clause-meets
+returns-clause-meets g c =
     let settings = settings_of c.args.settings.now in
     let reducers = c.args.settings.now.reducers in
     let old = g.F.Folder.seen c.args.folder.now in
@@ -46,4 +46,4 @@ returns g c =
     c.as_str.ensures.value ∙ c.in-Ok-summary.ensures ∙ ap (λ n. block_summary n reducers) (c.records.ensures.count ∙ ap length kept) in
     let may = may_block old meaning settings reducers c.args.input.now bytes _ _ (found old.held c.file_name.result.now c.args.input.now bytes 16777216 c.file_name.ensures c.in-Ok.ensures.read) short none files summary refl in
     meets_at_end old middle (g.F.Folder.seen c.hand_out.new.folder) (g.O.Sink.seen c.args.out.now) (g.O.Sink.seen c.hand_out.new.out) (asked_block meaning c.args.input.now) settings
-    [] _ _ c.hand_out.result may c.in-Ok.ensures.left.held (omega (arith, c.in-Ok.ensures.left.puts)) c.hand_out.ensures
+    [] _ _ c.hand_out.result may c.in-Ok.ensures.left.held (omega (arith, c.in-Ok.ensures.left.puts)) c.hand_out.ensures.hands

@@ -7,4 +7,5 @@ use Rattle.hop_top.proofs.puts.put_files.Given as goal
 abbrev pub invariant-loop-file : goal.invariant-loop-file
 invariant-loop-file g l =
     OnlyPut (g.F.Folder.seen l.initial.folder) (g.F.Folder.seen l.folder)
+    × ((g.F.Folder.seen l.folder).puts ≡ (g.F.Folder.seen l.initial.folder).puts)
     × ((g.F.Folder.seen l.folder).held ≡ with_files (g.F.Folder.seen l.initial.folder).held (files_in (take l.file-index l.files)))

@@ -13,4 +13,4 @@ returns-clause-complete g c = λ options files asks held accepted quiet.
     let out_old = g.O.Sink.seen c.args.out.now in
     let out_new = g.O.Sink.seen c.answer-answer.new.out in
     complete old new out_old out_new options.command options.settings files held c.answer-answer.result
-    (subst (λ (o : Option AskedOptions). Meets old new out_old out_new o c.answer-answer.result) asks c.answer-answer.ensures) accepted quiet.gets quiet.puts quiet.faults
+    (subst (λ (o : Option AskedOptions). Meets old new out_old out_new o c.answer-answer.result) asks c.answer-answer.ensures.meets) accepted quiet.gets quiet.puts quiet.faults
