@@ -21,7 +21,7 @@ use Rattle.hop_vault.specs.Rows.{Table, row_of, range_of, IsChain, IsStretch}
 use Rattle.hop_vault.specs.Stored.{name_of, IsStored, AreStored, IsFetched, AreFetched, AreHeldFrom, sheet_of, first_other, other_place}
 use Rattle.hop_vault.specs.Vaults.{AreOfHeld}
 use Rattle.hop_vault.proofs.SoundLaws.{chain_up}
-use Rattle.hop_vault.specs.Reads.{OpenedCause, ReadCause}
+use Rattle.hop_vault.specs.Reads.{GetsAnswered, OpenedCause, ReadCause}
 
 no_other : (at : Part) (p : ℕ) (s : Spill) → s.split ≡ at.split → s.attempt ≡ at.attempt → s.from ≡ at.from → s.to ≡ at.to → p < length s.sheets → first_other at p s ≡ None
 no_other at p s split attempt from to within =
@@ -61,6 +61,14 @@ module _ (split attempt p : ℕ) (kept : Kept) (bytes : List ℕ) (within : p < 
   read_cause old new (Err (fault.NotKept have)) h e c = absurd c
   read_cause old new (Err (fault.Damaged at digest found)) h e c = (untold old.held (not_damaged at digest found c) h e, bytes, c)
   read_cause old new (Err (fault.Collides at place)) h e c = (untold old.held (not_colliding at place c) h e, bytes, c)
+
+-- no get failed before the call that the answer is of
+pub answered_from_start : (start old new : FolderView) (e : FetchFault) → old.gets ≡ start.gets → GetsAnswered old new e → GetsAnswered start new e
+answered_from_start start old new fault.StoreFailed quiet answered = tt
+answered_from_start start old new fault.NoMemory quiet answered = answered ∙ quiet
+answered_from_start start old new (fault.NotKept have) quiet answered = answered ∙ quiet
+answered_from_start start old new (fault.Damaged at digest found) quiet answered = answered ∙ quiet
+answered_from_start start old new (fault.Collides at place) quiet answered = answered ∙ quiet
 
 -- a cause after earlier reads is one from the beginning
 pub cause_from_start : (first old new : FolderView) (at : Part) (p : ℕ) (digest : List ℕ) (e : FetchFault) → OnlyRead first old → ReadCause old new at p digest e → ReadCause first new at p digest e

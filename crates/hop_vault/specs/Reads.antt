@@ -22,6 +22,14 @@ GotCause old new (fault.NotKept have) = ⊥
 GotCause old new (fault.Damaged at digest found) = ⊥
 GotCause old new (fault.Collides at place) = ⊥
 
+-- no get failed, unless this is the answer that tells of it
+abbrev pub GetsAnswered : FolderView → FolderView → FetchFault → Type 0
+GetsAnswered old new fault.StoreFailed = Unit {0}
+GetsAnswered old new fault.NoMemory = new.gets ≡ old.gets
+GetsAnswered old new (fault.NotKept have) = new.gets ≡ old.gets
+GetsAnswered old new (fault.Damaged at digest found) = new.gets ≡ old.gets
+GetsAnswered old new (fault.Collides at place) = new.gets ≡ old.gets
+
 -- the sheet is that of partition p of the spill that the bytes spell, which is of the range
 pub record IsOpened (at : Part) (p : ℕ) (digest bytes : List ℕ) (sheet : List Pair) : Type 0 where
   pub spill : Spill

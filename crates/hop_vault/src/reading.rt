@@ -1,11 +1,11 @@
 //! Kept spills read back.
-ghost use Rattle.std.specs.Prelude.{◌≡◌, ◌≢◌, ◌<◌, true, false, None, Some, IfOk, IfErr, IfSome, All, length};
+ghost use Rattle.std.specs.Prelude.{◌≡◌, ◌≢◌, ◌<◌, true, false, None, Some, IfOk, IfErr, OnOk, IfSome, All, length};
 ghost use Rattle.std.specs.FinMap as map;
 ghost use Rattle.sha2.specs.Sha256.{sha256};
 ghost use Rattle.hop_ports.specs.Causes.{OnlyRead};
 ghost use Rattle.hop_vault.specs.Rows.{range_of};
 ghost use Rattle.hop_vault.specs.Stored.{name_of, IsStored, AreStored, IsFetched, AreFetched, first_other, sheet_of};
-ghost use Rattle.hop_vault.specs.Reads.{GotCause, IsOpened, OpenedCause, ReadCause, ReadsCause};
+ghost use Rattle.hop_vault.specs.Reads.{GotCause, GetsAnswered, IsOpened, OpenedCause, ReadCause, ReadsCause};
 
 use crate::kept::{FetchFault, Kept};
 use crate::names::spill_name;
@@ -40,6 +40,8 @@ pub fn got<V: Folder>(
 ) -> Result<Vec<u8>, FetchFault>
     requires { IfSome (V.seen folder.old).held (λ files. IsStored files split attempt kept.now) }
     ensures left { OnlyRead (V.seen folder.old) (V.seen folder.new) }
+    ensures no_fault { OnOk result ((V.seen folder.new).gets ≡ (V.seen folder.old).gets) }
+    ensures answered { IfErr result (GetsAnswered (V.seen folder.old) (V.seen folder.new)) }
     ensures found { IfOk result (λ bytes. IfSome (V.seen folder.old).held (λ files. map.get files (name_of split attempt kept.now.from) ≡ Some bytes.items)) }
     ensures cause { IfErr result (GotCause (V.seen folder.old) (V.seen folder.new)) }
 {
@@ -67,6 +69,8 @@ pub fn read_all<V: Folder>(
     requires stored { IfSome (V.seen folder.old).held (λ files. AreStored files split attempt spills.now) }
     requires within { All (λ kept. p < kept.sheets) spills.now }
     ensures left { OnlyRead (V.seen folder.old) (V.seen folder.new) }
+    ensures no_fault { OnOk result ((V.seen folder.new).gets ≡ (V.seen folder.old).gets) }
+    ensures answered { IfErr result (GetsAnswered (V.seen folder.old) (V.seen folder.new)) }
     ensures found { IfOk result (AreFetched (V.seen folder.old).held split attempt p spills.now) }
     ensures cause { IfErr result (ReadsCause (V.seen folder.old) (V.seen folder.new) split attempt p spills.now) }
 {
@@ -93,6 +97,8 @@ fn read<V: Folder>(
     requires stored { IfSome (V.seen folder.old).held (λ files. IsStored files split attempt kept.now) }
     requires within { p < kept.now.sheets }
     ensures left { OnlyRead (V.seen folder.old) (V.seen folder.new) }
+    ensures no_fault { OnOk result ((V.seen folder.new).gets ≡ (V.seen folder.old).gets) }
+    ensures answered { IfErr result (GetsAnswered (V.seen folder.old) (V.seen folder.new)) }
     ensures found { IfOk result (IsFetched (V.seen folder.old).held split attempt p kept.now) }
     ensures cause { IfErr result (ReadCause (V.seen folder.old) (V.seen folder.new) (range_of split attempt kept.now) p kept.now.digest) }
 {

@@ -40,6 +40,7 @@ impl<V: Folder> Model for Vault<V> {
 }
 
 impl<V: Folder> Vault<V> {
+    ghost use Rattle.hop_vault.specs.Reads.{GetsAnswered};
     ghost use Rattle.hop_vault.specs.Vaults.{IsKeptIn, KeepCause, Fetches, AreOfHeld, FetchCause};
 
     /// An empty vault of this worker that owns its folder. It takes no memory.
@@ -76,6 +77,7 @@ impl<V: Folder> Vault<V> {
         requires next { spill.now.from ≡ kept_end self.old.rows spill.now.split spill.now.attempt }
         ensures worker { self.new.worker ≡ self.old.worker }
         ensures counts { OnlyPut (V.seen self.old.folder) (V.seen self.new.folder) }
+        ensures no_fault { OnOk result ((V.seen self.new.folder).puts ≡ (V.seen self.old.folder).puts) }
         ensures kept { OnOk result (IsKeptIn (V.seen self.old.folder) (V.seen self.new.folder) self.old.rows self.new.rows spill.now) }
         ensures cause { IfErr result (KeepCause (V.seen self.old.folder) (V.seen self.new.folder) self.old.rows self.new.rows spill.now) }
     {
@@ -93,12 +95,15 @@ impl<V: Folder> Vault<V> {
     }
 
     /// The sheets of partition `p` of the kept spills of a range, in order. Each kept spill of the attempt has
-    /// such a sheet: [`Vault::has_sheets`] tells. It changes nothing that is kept or held.
+    /// such a sheet: [`Vault::has_sheets`] tells. It changes nothing that is kept or held, and a get that failed
+    /// is answered by `StoreFailed`.
     pub fn fetch(&mut self, part: Part, p: u8) -> Result<Sheets, FetchFault>
         requires { All (λ kept. p < kept.sheets) (row_of self.old.rows part.split part.attempt) }
         ensures rows { self.new.rows ≡ self.old.rows }
         ensures worker { self.new.worker ≡ self.old.worker }
         ensures left { OnlyRead (V.seen self.old.folder) (V.seen self.new.folder) }
+        ensures no_fault { OnOk result ((V.seen self.new.folder).gets ≡ (V.seen self.old.folder).gets) }
+        ensures answered { IfErr result (GetsAnswered (V.seen self.old.folder) (V.seen self.new.folder)) }
         ensures found { IfOk result (Fetches (V.seen self.old.folder).held self.old.rows part p) }
         ensures held { IfOk result (AreOfHeld (V.seen self.old.folder).held part p) }
         ensures not_kept { NoStretch (row_of self.old.rows part.split part.attempt) part.from part.to → result ≡ Err (FetchFault.NotKept (kept_end self.old.rows part.split part.attempt)) }
@@ -162,6 +167,7 @@ fn store<V: Folder>(
     requires text { file.now.text.items ≡ spill_text spill.now }
     requires known { IsKept spill.now file.now.kept }
     ensures counts { OnlyPut (V.seen folder.old) (V.seen folder.new) }
+    ensures no_fault { OnOk result ((V.seen folder.new).puts ≡ (V.seen folder.old).puts) }
     ensures kept { OnOk result (IsKeptIn (V.seen folder.old) (V.seen folder.new) rows.old rows.new spill.now) }
     ensures cause { IfErr result (KeepCause (V.seen folder.old) (V.seen folder.new) rows.old rows.new spill.now) }
 {
