@@ -1,5 +1,5 @@
 -- What a history covers of each split, its progress and its cuts. Its last event stands first.
-use Rattle.std.specs.Prelude.{ℕ, zero, suc, ◌*◌, ◌/◌, Bool, true, false, ◌==◌, ◌&&◌, if◌then◌else◌, nat_lt, nat_le, max, Option, Some, None, List, [], ◌∷◌, length, map, sum, slice_index, filter}
+use Rattle.std.specs.Prelude.{◌≡◌, ◌<◌, ◌≤◌, ℕ, zero, suc, ◌*◌, ◌/◌, Bool, true, false, ◌==◌, ◌&&◌, if◌then◌else◌, nat_lt, nat_le, max, Option, Some, None, List, [], ◌∷◌, length, map, sum, slice_index, filter}
 use Rattle.std.specs.List.{range_with_len}
 use Rattle.hop_event.specs.declared.event.Event.{Event}
 use Rattle.hop_event.specs.declared.declared.Declared.{Declared}
@@ -17,6 +17,20 @@ records_of (Some d) = d.records
 unfoldable pub leader : (ℕ → ℕ) → ℕ → Option Declared
 leader records zero = None
 leader records (suc a) = if nat_lt (records_of (leader records a)) (records a) then Some (record { attempt = a; records = records a; committed = false }) else leader records a
+
+-- it has the most records of the attempts below n, some, and is the least of those that have as many
+pub record IsLeader (records : ℕ → ℕ) (n : ℕ) (d : Declared) : Type 0 where
+  pub below : d.attempt < n
+  pub its_records : d.records ≡ records d.attempt
+  pub some : 0 < d.records
+  pub most : (b : ℕ) → b < n → records b ≤ d.records
+  pub least : (b : ℕ) → b < n → records b ≡ d.records → d.attempt ≤ b
+  pub tentative : d.committed ≡ false
+
+-- an attempt leads those below n, or none of them has records
+abbrev pub Leads : (ℕ → ℕ) → ℕ → Option Declared → Type 0
+Leads records n (Some d) = IsLeader records n d
+Leads records n None = (b : ℕ) → b < n → records b ≡ 0
 
 -- what a winner declares
 abbrev pub committed_part : ℕ → ℕ → Option Declared

@@ -138,6 +138,12 @@ IsLegal rules p begun (e ∷ earlier) = Follows rules p begun earlier e × IsLeg
 abbrev pub GrowsLegally : Rules → ℕ → List Event → Type 0
 GrowsLegally rules p h = IsLegal rules p (λ i. rules.attempts) h
 
+-- one number for each split, of the attempts of it that were begun: at least one, and no more than may be
+pub record IsBegun (rules : Rules) (begun : List ℕ) : Type 0 where
+  pub each : length begun ≡ length rules.lens
+  pub some : All (λ n. 1 ≤ n) begun
+  pub few : All (λ n. n ≤ rules.attempts) begun
+
 -- A whole history, where so many attempts of each split were begun: it ends with its one finish, before
 -- which all is there and no attempt that was begun is open.
 abbrev pub IsFinished : Rules → ℕ → List ℕ → List Event → Type 0

@@ -6,6 +6,7 @@
 pub mod declared;
 pub mod event;
 pub mod history;
+pub mod laws;
 
 pub use declared::Declared;
 pub use event::{Event, Via};
