@@ -6,6 +6,7 @@
 mod decoding;
 mod encoding;
 mod fields;
+pub mod laws;
 pub mod spill;
 mod stop;
 

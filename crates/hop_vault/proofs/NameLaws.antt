@@ -7,7 +7,7 @@ use Rattle.std.proofs.lemmas.List.{append_cancel_left}
 use Rattle.std.proofs.lemmas.Fmt.{decimal_injective}
 use Rattle.hop_base.proofs.Fronts.{front_unique}
 use Rattle.hop_base.proofs.Numerals.{decimal_digits}
-use Rattle.hop_vault.specs.Stored.{name_of}
+use Rattle.hop_spill.specs.SpillFiles.{name_of}
 
 -- digits up to a dash are determined
 up_to_dash : (ds es r s : List ℕ) → list_all is_ascii_digit ds ≡ true → list_all is_ascii_digit es ≡ true → ds ++ 45 ∷ r ≡ es ++ 45 ∷ s → (ds ≡ es) × (r ≡ s)

@@ -18,7 +18,8 @@ use Rattle.hop_vault.specs.declared.kept.Kept.{Kept}
 use Rattle.hop_vault.specs.declared.kept.FetchFault.{FetchFault}
 use Rattle.hop_vault.specs.declared.kept.FetchFault.TheVariants as fault
 use Rattle.hop_vault.specs.Rows.{Table, row_of, range_of, IsChain, IsStretch}
-use Rattle.hop_vault.specs.Stored.{name_of, IsStored, AreStored, IsFetched, AreFetched, AreHeldFrom, sheet_of, first_other, other_place}
+use Rattle.hop_spill.specs.SpillFiles.{name_of}
+use Rattle.hop_vault.specs.Stored.{IsStored, AreStored, IsFetched, AreFetched, AreHeldFrom, sheet_of, first_other, other_place}
 use Rattle.hop_vault.specs.Vaults.{AreOfHeld}
 use Rattle.hop_vault.proofs.SoundLaws.{chain_up}
 use Rattle.hop_vault.specs.Reads.{GetsAnswered, OpenedCause, ReadCause}

@@ -22,7 +22,8 @@ use Rattle.hop_vault.specs.declared.kept.Kept.{Kept}
 use Rattle.hop_vault.specs.declared.kept.KeepFault.{KeepFault}
 use Rattle.hop_vault.specs.declared.kept.KeepFault.TheVariants as fault
 use Rattle.hop_vault.specs.Rows.{Table, row_of, end_of, kept_end, IsChain, SameRows, AddsTo}
-use Rattle.hop_vault.specs.Stored.{name_of, IsStored, AreStored}
+use Rattle.hop_spill.specs.SpillFiles.{name_of}
+use Rattle.hop_vault.specs.Stored.{IsStored, AreStored}
 use Rattle.hop_vault.specs.Vaults.{IsSound, IsKept, IsKeptIn, KeepCause}
 use Rattle.hop_vault.proofs.NameLaws.{name_tells}
 

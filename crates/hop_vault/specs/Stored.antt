@@ -1,5 +1,5 @@
 -- What the folder of a vault holds.
-use Rattle.std.specs.Prelude.{◌≡◌, ℕ, ◌<◌, not, ◌==◌, List, [], ◌∷◌, ◌++◌, length, Option, None, Some, Result, Ok, Err, IfSome, decimal, codes, nat_le, slice_index_or, if◌then◌else◌}
+use Rattle.std.specs.Prelude.{◌≡◌, ℕ, ◌<◌, not, ◌==◌, List, [], ◌∷◌, length, Option, None, Some, Result, Ok, Err, IfSome, nat_le, slice_index_or, if◌then◌else◌}
 use Rattle.std.specs.FinMap as map
 use Rattle.sha2.specs.Sha256.{sha256}
 use Rattle.hop_base.specs.declared.part.Part.{Part}
@@ -7,11 +7,8 @@ use Rattle.hop_base.specs.declared.value.Pair.{Pair}
 use Rattle.hop_base.specs.Files.{Files}
 use Rattle.hop_spill.specs.declared.spill.Spill.{Spill}
 use Rattle.hop_spill.specs.Spelling.{IsSpill, spill_text}
+use Rattle.hop_spill.specs.SpillFiles.{name_of}
 use Rattle.hop_vault.specs.declared.kept.Kept.{Kept}
-
--- the name of a spill's file
-abbrev pub name_of : ℕ → ℕ → ℕ → List ℕ
-name_of split attempt from = codes "s-" ++ (decimal split ++ (codes "-" ++ (decimal attempt ++ (codes "-" ++ decimal from))))
 
 -- the spill has the range that was kept, and its text the digest
 pub record IsTextOf (split attempt : ℕ) (kept : Kept) (spill : Spill) : Type 0 where

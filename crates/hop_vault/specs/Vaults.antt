@@ -17,7 +17,8 @@ use Rattle.hop_vault.specs.declared.kept.KeepFault.TheVariants as keep_fault
 use Rattle.hop_vault.specs.declared.kept.FetchFault.{FetchFault}
 use Rattle.hop_vault.specs.declared.kept.FetchFault.TheVariants as fetch_fault
 use Rattle.hop_vault.specs.Rows.{Table, row_of, kept_end, range_of, IsChain, IsStretch, NoStretch, SameRows, AddsTo}
-use Rattle.hop_vault.specs.Stored.{name_of, sheet_of, AreStored, AreFetched, AreHeldFrom, other_place}
+use Rattle.hop_spill.specs.SpillFiles.{name_of}
+use Rattle.hop_vault.specs.Stored.{sheet_of, AreStored, AreFetched, AreHeldFrom, other_place}
 
 -- a vault: its worker, its folder, and the spills that it kept
 pub record VaultValue (V : Type 0) : Type 0 where

@@ -1,6 +1,6 @@
 //! The names of spill files.
 ghost use Rattle.std.specs.Prelude.{◌≡◌, IfOk, string_bytes};
-ghost use Rattle.hop_vault.specs.Stored.{name_of};
+ghost use Rattle.hop_spill.specs.SpillFiles.{name_of};
 
 use hop_base::NoMemory;
 use std::alloc::Global;

@@ -4,7 +4,8 @@ ghost use Rattle.std.specs.FinMap as map;
 ghost use Rattle.sha2.specs.Sha256.{sha256};
 ghost use Rattle.hop_ports.specs.Causes.{OnlyRead};
 ghost use Rattle.hop_vault.specs.Rows.{range_of};
-ghost use Rattle.hop_vault.specs.Stored.{name_of, IsStored, AreStored, IsFetched, AreFetched, first_other, sheet_of};
+ghost use Rattle.hop_spill.specs.SpillFiles.{name_of};
+ghost use Rattle.hop_vault.specs.Stored.{IsStored, AreStored, IsFetched, AreFetched, first_other, sheet_of};
 ghost use Rattle.hop_vault.specs.Reads.{GotCause, GetsAnswered, IsOpened, OpenedCause, ReadCause, ReadsCause};
 
 use crate::kept::{FetchFault, Kept};

@@ -4,7 +4,7 @@ ghost use Rattle.std.specs.List.Sorted.{IsPartitionPoint};
 ghost use Rattle.hop_ports.specs.Causes.{OnlyRead, OnlyPut};
 ghost use Rattle.hop_spill.specs.Spelling.{IsSpill, spill_text};
 ghost use Rattle.hop_vault.specs.Rows.{row_of, end_of, kept_end, IsChain, IsStretch, NoStretch};
-ghost use Rattle.hop_vault.specs.Stored.{name_of};
+ghost use Rattle.hop_spill.specs.SpillFiles.{name_of};
 ghost use Rattle.hop_vault.specs.Vaults.{IsKept, IsKeptIn, KeepCause, not_put};
 
 use crate::kept::{FetchFault, KeepFault, Kept};

@@ -1,7 +1,7 @@
 use Rattle.std.proofs.Common.{◌≡◌, ℕ, List, Some, subst, sym}
 use Rattle.std.specs.Prelude.{IfSome}
 use Rattle.std.specs.FinMap as map
-use Rattle.hop_vault.specs.Stored.{name_of}
+use Rattle.hop_spill.specs.SpillFiles.{name_of}
 use Rattle.hop_vault.proofs.ReadLaws.{read_cause}
 use Rattle.hop_vault.proofs.reading.read.Goals as goal
 
