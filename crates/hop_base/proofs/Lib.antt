@@ -1,4 +1,5 @@
 pub mod Best
+pub mod FlatLaws
 pub mod Fronts
 pub mod Numerals
 pub mod OrderLaws

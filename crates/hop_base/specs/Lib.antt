@@ -1,8 +1,11 @@
 pub mod Causes
+pub mod Fields
 pub mod Files
+pub mod Flat
 pub mod Fronts
 pub mod Meaning
 pub mod Order
+pub mod OrderLaws
 pub mod Ranges
 pub mod Run
 pub mod Sorted

@@ -1,5 +1,6 @@
 pub mod Combined
 pub mod Emitted
+pub mod FlatGroupLaws
 pub mod GroupLaws
 pub mod Keys
 pub mod Lines
