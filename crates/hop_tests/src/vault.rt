@@ -117,6 +117,29 @@ fn keeps_nothing_where_the_folder_fails(rt: HostRuntime) -> Result<(), Fail> {
     Ok(())
 }
 
+// A vault with both spills over a folder of which these calls fail; the first two put the spills.
+fn vault_that_fails(alloc: Global, first: u64, second: u64) -> Result<Vault<MemFolder>, Fail> {
+    let mut fails = Vec::new(alloc);
+    fails.push(first)?;
+    fails.push(second)?;
+    let mut vault = Vault::new(alloc, MemFolder::new(alloc, fails), 0);
+    keep(alloc, &mut vault, &FIRST)?;
+    keep(alloc, &mut vault, &SECOND)?;
+    Ok(vault)
+}
+
+// How often the folder is asked is no clause's: a fetch makes one get for each kept spill of the range, in
+// order, and none after one that failed.
+#[test]
+fn gets_each_kept_spill_once(rt: HostRuntime) -> Result<(), Fail> {
+    let alloc = rt.alloc();
+    let mut vault = vault_that_fails(alloc, 3, 6)?;
+    assert!(rt; matches!(fetch(alloc, &mut vault, 2)?, Err(FetchFault::StoreFailed)));
+    assert!(rt; matches!(fetch(alloc, &mut vault, 2)?, Ok(_)));
+    assert!(rt; matches!(fetch(alloc, &mut vault, 2)?, Err(FetchFault::StoreFailed)));
+    Ok(())
+}
+
 // A folder of one file, whose byte 40 it alters at each get.
 #[derive(Drop)]
 struct Altering {
