@@ -1,4 +1,5 @@
 pub mod Answers
+pub mod Pieces
 pub mod Reading
 pub mod Spelling
 pub mod SpillFiles

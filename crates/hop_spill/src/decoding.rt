@@ -1,10 +1,11 @@
 //! Bytes read as spills.
-ghost use Rattle.std.specs.Prelude.{◌≡◌, ◌≤◌, Ok, None, IfOk};
+ghost use Rattle.std.specs.Prelude.{◌≡◌, ◌≤◌, ℕ, Ok, Err, None, IfOk};
 ghost use Rattle.std.specs.Option.{option_copied};
 ghost use Rattle.hop_spill.specs.declared.spill.Spill.{Spill};
 ghost use Rattle.hop_spill.specs.Spelling.{IsSpill, spill_text};
 ghost use Rattle.hop_spill.specs.Reading.{is_smaller, may_follow, pair_at, pairs_at, sheet_at, sheets_at, head_at, front_at, spill_at, read_spill};
 ghost use Rattle.hop_spill.specs.Answers.{Gives, IsAnswer};
+ghost use Rattle.hop_spill.specs.Pieces.{StopsAt};
 
 use crate::fields::{MAGIC, blob, long, word, word_within};
 use crate::spill::{Spill, SpillFault};
@@ -36,6 +37,8 @@ pub fn decode(alloc: Global, bytes: &[u8]) -> Result<Spill, SpillFault>
     ensures only { (spill : Spill) → IsSpill spill → bytes.now ≡ spill_text spill → IsAnswer result (Ok spill) }
     // Which place it is.
     ensures place { IsAnswer result (read_spill bytes.now) }
+    // No spill's text that begins as the bytes do before the place goes on with a piece that stands there.
+    ensures stops { (place : ℕ) → result ≡ Err (SpillFault.Damaged place) → StopsAt bytes.now place }
 {
     match whole(alloc, bytes) {
         Ok(spill) => Ok(spill),
