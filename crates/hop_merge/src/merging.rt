@@ -8,14 +8,14 @@ ghost use Rattle.hop_base.specs.Order.{IsValidPair, pair_cmp};
 ghost use Rattle.hop_base.specs.Sorted.{ord};
 ghost use Rattle.hop_run.specs.Runs.{RunStands};
 
-use hop_base::NoMemory;
+use hop_base::{NoMemory, Part};
 use hop_run::Run;
 use std::alloc::Global;
 
 /// What merging the runs one after the other gives, from the first to the last: the pairs of all of
-/// them in order, and their parts joined in their order. No runs give the empty run. It merges by
-/// halves, so each pair is copied once out of its run, and once more for each doubling of the number
-/// of runs.
+/// them in order, and their parts joined in their order. No runs give the empty run. The least pair
+/// among the first ones of all runs comes next, so each pair is copied once, and with n runs costs about
+/// log n comparisons.
 pub fn merge_all(alloc: Global, runs: &[Run]) -> Result<Run, NoMemory>
     ensures sheet { IfOk result (λ run. run.sheet ≡ ord pair_cmp (flat_map (λ r. r.sheet) runs.now)) }
     ensures parts { IfOk result (λ run. run.parts ≡ flat_map (λ r. r.parts) runs.now) }
@@ -26,19 +26,20 @@ pub fn merge_all(alloc: Global, runs: &[Run]) -> Result<Run, NoMemory>
         → All (RunStands reduce pairs_of) runs.now
         → IfOk result (RunStands reduce pairs_of) }
 {
-    match runs {
-        [] => Ok(Run::empty(alloc)),
-        [run] => {
-            let _known = run.sheet();
-            let only = run.copy()?;
-            Ok(only)
-        }
-        _ => {
-            let (front, back) = runs.split_at(runs.len() / 2);
-            let first = merge_all(alloc, front)?;
-            let second = merge_all(alloc, back)?;
-            let merged = Run::merge(alloc, &first, &second)?;
-            Ok(merged)
-        }
+    let flat = Run::merged_pairs(alloc, runs)?;
+    let parts = joined_parts(alloc, runs)?;
+    flat.known();
+    let run = Run::of_flat(flat, parts);
+    Ok(run)
+}
+
+// The parts of all runs, in their order.
+fn joined_parts(alloc: Global, runs: &[Run]) -> Result<Vec<Part>, NoMemory>
+    ensures { IfOk result (λ parts. parts.items ≡ flat_map (λ r. r.parts) runs.now) }
+{
+    let mut parts = Vec::new(alloc);
+    for run in runs {
+        parts.extend_from_slice(run.parts())?;
     }
+    Ok(parts)
 }

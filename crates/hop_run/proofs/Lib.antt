@@ -1,3 +1,4 @@
+pub mod HeadLaws
 pub mod MappingLaws
 pub mod MergeLaws
 pub mod RunLaws

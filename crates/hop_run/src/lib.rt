@@ -1,10 +1,13 @@
 //! Runs: sorted pairs with the list of the parts that they were made of, and what is done with them.
 #![tactic(auto)]
 
+mod head;
+pub mod heads;
 mod mapping;
 mod merging;
 pub mod message;
 pub mod run;
 
+pub use heads::Heads;
 pub use message::{Message, Parcel};
 pub use run::{Run, Runs};

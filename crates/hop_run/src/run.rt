@@ -1,20 +1,22 @@
 //! Runs.
-ghost use Rattle.std.specs.Prelude.{◌≡◌, ◌<◌, ◌≤◌, ℕ, List, ◌∷◌, [], ◌++◌, All, IfOk, IsSorted};
+ghost use Rattle.std.specs.Prelude.{◌≡◌, ◌<◌, ◌≤◌, ℕ, List, ◌∷◌, [], ◌++◌, All, IfOk, Some, length, slice_get};
 ghost use Rattle.std.specs.List.{flat_map};
 ghost use Rattle.hop_base.specs.declared.part.Part.{Part};
 ghost use Rattle.hop_base.specs.declared.value.Pair.{Pair};
 ghost use Rattle.hop_base.specs.declared.value.Val.{Val};
-ghost use Rattle.hop_base.specs.Order.{IsValidPair, pair_cmp};
+ghost use Rattle.hop_base.specs.Flat.{pairs_text};
+ghost use Rattle.hop_base.specs.Order.{IsSheet, IsValidPair, pair_cmp};
 ghost use Rattle.hop_base.specs.Sorted.{ord};
 ghost use Rattle.hop_laws.specs.Blocking.{part_pairs};
 ghost use Rattle.hop_laws.specs.Groups.{red};
 ghost use Rattle.hop_laws.specs.Stands.{combined_pairs};
 ghost use Rattle.hop_records.specs.Records.{splits_of, len_of};
 
+use crate::heads::Heads;
 use crate::mapping::map_part;
 use crate::merging::merge_sheets;
-use hop_base::{Listed, NoMemory, Part, Sheet, Text};
-use hop_laws::{Job, combine_sheet, reduce_sheet};
+use hop_base::{FlatSheet, Listed, NoMemory, PairView, Part, Sheet, Text};
+use hop_laws::{Job, combine_flat, reduce_flat};
 use hop_records::Book;
 use std::alloc::{AllocError, Global};
 use std::marker::Model;
@@ -24,9 +26,11 @@ use std::marker::Model;
 /// What matters of a run is what it stands for: with whatever values joins it, reduce gives the same
 /// of the sheet as of the pairs that map emits for the records of the parts. Merging and combining
 /// keep that, however often and in whatever order they are done.
+///
+/// The pairs are kept as bytes, as in a spill; a copy of a run shares them.
 #[derive(Debug, Drop)]
 pub struct Run {
-    sheet: Sheet,
+    flat: FlatSheet,
     parts: Vec<Part>,
 }
 
@@ -38,7 +42,7 @@ impl Model for Run {
 
     ghost Value = { RunValue };
 
-    ghost view = { λ r. record { sheet = r.sheet; parts = r.parts.items } };
+    ghost view = { λ r. record { sheet = r.flat; parts = r.parts.items } };
 }
 
 impl Run {
@@ -48,9 +52,9 @@ impl Run {
     pub fn empty(alloc: Global) -> Run
         ensures { result ≡ empty_run }
     {
-        let sheet = Sheet::from_pairs(Vec::new(alloc));
+        let flat = FlatSheet::empty(alloc);
         let parts = Vec::new(alloc);
-        Run { sheet, parts }
+        Run { flat, parts }
     }
 
     /// The sorted pairs of the part's records in partition `p` of `r`, where `r` is at most 8 and `p`
@@ -84,9 +88,17 @@ impl Run {
     pub fn of_sheet(alloc: Global, sheet: Sheet, part: Part) -> Result<Run, NoMemory>
         ensures { IfOk result (λ run. run ≡ record { sheet = sheet; parts = part ∷ [] }) }
     {
+        let flat = FlatSheet::from_sheet(alloc, &sheet)?;
         let mut parts = Vec::new(alloc);
         parts.push(part)?;
-        Ok(Run { sheet, parts })
+        Ok(Run { flat, parts })
+    }
+
+    /// The run of these pairs and parts. It takes no memory.
+    pub fn of_flat(flat: FlatSheet, parts: Vec<Part>) -> Run
+        ensures { result ≡ record { sheet = flat; parts = parts.items } }
+    {
+        Run { flat, parts }
     }
 
     /// The sorted union, and the parts of both joined in order. It is linear in both.
@@ -100,10 +112,10 @@ impl Run {
             → RunStands reduce pairs_of a.now → RunStands reduce pairs_of b.now
             → IfOk result (RunStands reduce pairs_of) }
     {
-        let sheet = merge_sheets(alloc, &a.sheet, &b.sheet)?;
+        let flat = merge_sheets(alloc, &a.flat, &b.flat)?;
         let parts = joined(alloc, &a.parts, &b.parts)?;
-        let _known = b.sheet.as_slice();
-        Ok(Run { sheet, parts })
+        b.flat.known();
+        Ok(Run { flat, parts })
     }
 
     /// The values of each key combined, and the same parts.
@@ -116,10 +128,10 @@ impl Run {
             → RunStands (J.meaning job.now).reduced pairs_of a.now
             → IfOk result (RunStands (J.meaning job.now).reduced pairs_of) }
     {
-        let sheet = combine_sheet(alloc, job, &a.sheet)?;
+        let flat = combine_flat(alloc, job, &a.flat)?;
         let parts = Vec::from_slice(alloc, &a.parts)?;
-        let _known = a.sheet.as_slice();
-        Ok(Run { sheet, parts })
+        a.flat.known();
+        Ok(Run { flat, parts })
     }
 
     /// What reduce gives for each key and its values, the keys ascending, joined.
@@ -131,17 +143,17 @@ impl Run {
             → RunStands (J.meaning job.now).reduced pairs_of a.now
             → IfOk result (λ text. text ≡ red (J.meaning job.now).reduced (flat_map pairs_of a.now.parts)) }
     {
-        let text = reduce_sheet(alloc, job, &a.sheet)?;
+        let text = reduce_flat(alloc, job, &a.flat)?;
         Ok(Text::from_vec(text))
     }
 
-    /// An equal run.
+    /// An equal run, of the same bytes.
     pub fn copy(&self) -> Result<Run, NoMemory>
         ensures { IfOk result (λ run. run ≡ self.now) }
     {
-        let sheet = self.sheet.copy()?;
+        let flat = self.flat.copy()?;
         let parts = self.parts.clone()?;
-        Ok(Run { sheet, parts })
+        Ok(Run { flat, parts })
     }
 
     /// Its parts, in the order in which they were joined.
@@ -151,14 +163,53 @@ impl Run {
         &self.parts
     }
 
-    /// Its sheet.
-    pub fn sheet(&self) -> &Sheet
-        ensures value { result.now ≡ self.now.sheet }
-        ensures sorted { IsSorted pair_cmp self.now.sheet }
-        ensures valid { All IsValidPair self.now.sheet }
+    /// The number of its pairs.
+    pub fn len(&self) -> u64
+        ensures { result ≡ length self.now.sheet }
     {
-        let _known = self.sheet.as_slice();
-        &self.sheet
+        self.flat.len()
+    }
+
+    /// Pair `k`, counted from 0 and below `len`.
+    pub fn pair(&self, k: u64) -> PairView<'_>
+        requires { k < length self.now.sheet }
+        ensures { slice_get self.now.sheet k ≡ Some result }
+    {
+        self.flat.pair(k)
+    }
+
+    /// Its pairs as a sheet.
+    pub fn to_sheet(&self) -> Result<Sheet, NoMemory>
+        ensures { IfOk result (λ sheet. sheet ≡ self.now.sheet) }
+    {
+        self.flat.to_sheet()
+    }
+
+    /// The texts of its pairs in order, joined, as in a spill. It takes no memory.
+    pub fn bytes(&self) -> &[u8]
+        ensures { result.now ≡ pairs_text self.now.sheet }
+    {
+        self.flat.bytes()
+    }
+
+    /// Its pairs as they are kept.
+    pub fn flat(&self) -> &FlatSheet
+        ensures value { result.now ≡ self.now.sheet }
+        ensures sheet { IsSheet self.now.sheet }
+    {
+        self.flat.known();
+        &self.flat
+    }
+
+    /// The pairs of all these runs, in order. With n runs it makes about log n comparisons a pair.
+    pub fn merged_pairs(alloc: Global, runs: &[Run]) -> Result<FlatSheet, NoMemory>
+        ensures { IfOk result (λ flat. flat ≡ ord pair_cmp (flat_map (λ r. r.sheet) runs.now)) }
+    {
+        let mut heads = Heads::new(alloc);
+        for run in runs {
+            heads.add(&run.flat)?;
+        }
+        heads.merged()
     }
 }
 
