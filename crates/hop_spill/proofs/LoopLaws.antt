@@ -26,7 +26,7 @@ module _ {X : Type 0} where
 abbrev pub last_pair : List Pair → Option Pair
 last_pair pairs = slice_get pairs (length pairs - 1)
 
-last_push : (front : List Pair) (n : Pair) → last_pair (front ++ n ∷ []) ≡ Some n
+pub last_push : (front : List Pair) (n : Pair) → last_pair (front ++ n ∷ []) ≡ Some n
 last_push front n =
     let len = length_push front n in
     let last : length front ≡ length (front ++ n ∷ []) - 1 = omega (arith, len) in

@@ -8,7 +8,8 @@ use Rattle.hop_spill.specs.declared.decoding.Head.{Head}
 use Rattle.hop_spill.specs.declared.spill.SpillFault.{SpillFault}
 use Rattle.hop_spill.specs.declared.spill.SpillFault.TheVariants as fault
 use Rattle.hop_spill.specs.Pieces.{pieces, sheet_pieces, StopsAt}
-use Rattle.hop_spill.specs.Spelling.{magic, word, IsSpill}
+use Rattle.hop_base.specs.Fields.{word}
+use Rattle.hop_spill.specs.Spelling.{magic, IsSpill}
 use Rattle.hop_spill.specs.Reading.{◌>>=◌, word_within, head_at, sheets_at, front_at, spill_at}
 use Rattle.hop_spill.proofs.FieldLaws.{word_within_again}
 use Rattle.hop_spill.proofs.PieceLaws.{Skips, skips_ok, skips_bind, word_within_within, sheets_within, PassesAll, passes_more, word_here, sheets_pass, err_is, ok_not_err}
@@ -137,9 +138,9 @@ stops_where_it_fails bytes left e s piece more is goes stands =
       | inr h ↦ omega (arith, h, size)
     ]
 
-damaged_is : (a b : ℕ) → ◌≡◌ {A = Result Spill SpillFault} (Err (fault.Damaged a)) (Err (fault.Damaged b)) → a ≡ b
+damaged_is : {S : Type 0} (a b : ℕ) → ◌≡◌ {A = Result S SpillFault} (Err (fault.Damaged a)) (Err (fault.Damaged b)) → a ≡ b
 damaged_is a b e = cc
 
 -- the place that is answered
-pub stops_as_answered : (bytes : List ℕ) (left found place : ℕ) → spill_at bytes ≡ Err left → found ≡ length bytes - left → ◌≡◌ {A = Result Spill SpillFault} (Err (fault.Damaged found)) (Err (fault.Damaged place)) → StopsAt bytes place
+pub stops_as_answered : {S : Type 0} (bytes : List ℕ) (left found place : ℕ) → spill_at bytes ≡ Err left → found ≡ length bytes - left → ◌≡◌ {A = Result S SpillFault} (Err (fault.Damaged found)) (Err (fault.Damaged place)) → StopsAt bytes place
 stops_as_answered bytes left found place e is answer = subst (StopsAt bytes) (sym is ∙ damaged_is found place answer) (stops_where_it_fails bytes left e)

@@ -4,7 +4,8 @@ use Rattle.std.specs.List.{flat_map, concat}
 use Rattle.hop_base.specs.declared.value.Pair.{Pair}
 use Rattle.hop_base.specs.Order.{IsValidPair}
 use Rattle.hop_spill.specs.declared.spill.Spill.{Spill}
-use Rattle.hop_spill.specs.Spelling.{magic, word, long, pair_text, IsSpill}
+use Rattle.hop_base.specs.Fields.{word, long, pair_text}
+use Rattle.hop_spill.specs.Spelling.{magic, IsSpill}
 
 -- the six fields of the head
 abbrev pub head_pieces : Spill → List (List ℕ)

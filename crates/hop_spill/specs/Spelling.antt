@@ -1,38 +1,31 @@
 -- What a spill is, and its one text: the fields in order, numbers with their greatest byte first.
 use Rattle.std.specs.Prelude.{◌≡◌, ℕ, ◌+◌, ◌<◌, ◌≤◌, ◌^◌, List, [], ◌∷◌, ◌++◌, length, All}
-use Rattle.std.specs.Int.{w32, w64, to_be_bytes}
 use Rattle.std.specs.List.{flat_map}
 use Rattle.hop_base.specs.declared.value.Pair.{Pair}
+use Rattle.hop_base.specs.Fields.{word, pair_text}
 use Rattle.hop_base.specs.Order.{IsSheet}
 use Rattle.hop_laws.specs.Partition.{partition_of}
+use Rattle.hop_spill.specs.declared.spill.FlatSpill.{FlatSpill}
 use Rattle.hop_spill.specs.declared.spill.Spill.{Spill}
+
+-- a spill whose sheets are kept as bytes, as a spill
+abbrev pub spill_in : FlatSpill → Spill
+spill_in flat = record { split = flat.split; attempt = flat.attempt; from = flat.from; to = flat.to; sheets = flat.sheets }
 
 -- the letters HSP1, as a number
 abbrev pub magic : ℕ
 magic = 0x48535031
 
--- a number of four bytes
-unfoldable pub word : ℕ → List ℕ
-word n = to_be_bytes w32 n
-
--- a number of eight bytes
-unfoldable pub long : ℕ → List ℕ
-long n = to_be_bytes w64 n
-
--- bytes, behind their number
-unfoldable pub counted : List ℕ → List ℕ
-counted bytes = word (length bytes) ++ bytes
-
-unfoldable pub pair_text : Pair → List ℕ
-pair_text pair = counted pair.key ++ (long pair.val.n ++ counted pair.val.s)
-
 -- pairs, behind their number
 unfoldable pub sheet_text : List Pair → List ℕ
 sheet_text pairs = word (length pairs) ++ flat_map pair_text pairs
 
+-- the six fields of the head
+abbrev pub head_fields : ℕ → ℕ → ℕ → ℕ → ℕ → List ℕ
+head_fields split attempt from to reducers = word magic ++ (word split ++ (word attempt ++ (word from ++ (word to ++ word reducers))))
+
 unfoldable pub head_text : Spill → List ℕ
-head_text spill =
-    word magic ++ (word spill.split ++ (word spill.attempt ++ (word spill.from ++ (word spill.to ++ word (length spill.sheets)))))
+head_text spill = head_fields spill.split spill.attempt spill.from spill.to (length spill.sheets)
 
 -- the text of a spill
 unfoldable pub spill_text : Spill → List ℕ

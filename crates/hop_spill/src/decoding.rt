@@ -1,17 +1,16 @@
 //! Bytes read as spills.
 ghost use Rattle.std.specs.Prelude.{◌≡◌, ◌≤◌, ℕ, Ok, Err, None, IfOk};
-ghost use Rattle.std.specs.Option.{option_copied};
 ghost use Rattle.hop_spill.specs.declared.spill.Spill.{Spill};
-ghost use Rattle.hop_spill.specs.Spelling.{IsSpill, spill_text};
+ghost use Rattle.hop_spill.specs.Spelling.{IsSpill, spill_in, spill_text};
 ghost use Rattle.hop_spill.specs.Reading.{is_smaller, may_follow, pair_at, pairs_at, sheet_at, sheets_at, head_at, front_at, spill_at, read_spill};
-ghost use Rattle.hop_spill.specs.Answers.{Gives, IsAnswer};
+ghost use Rattle.hop_spill.specs.Answers.{Gives, IsAnswer, answer_in};
 ghost use Rattle.hop_spill.specs.Pieces.{StopsAt};
 
-use crate::fields::{MAGIC, blob, long, word, word_within};
-use crate::spill::{Spill, SpillFault};
+use crate::fields::{MAGIC, counted, long, word, word_within};
+use crate::spill::{FlatSpill, Spill, SpillFault};
 use crate::stop::Stop;
 use hop_base::limits::{MAX_ATTEMPTS, MAX_RECORDS, MAX_REDUCERS, MAX_SPLITS};
-use hop_base::{Listed, Pair, Sheet, Sheets, Val};
+use hop_base::{FlatSheet, FlatSheetBuilder, FlatSheets, Listed, NoMemory, PairView, Sheets};
 use hop_laws::partition;
 use std::alloc::Global;
 
@@ -40,6 +39,33 @@ pub fn decode(alloc: Global, bytes: &[u8]) -> Result<Spill, SpillFault>
     // No spill's text that begins as the bytes do before the place goes on with a piece that stands there.
     ensures stops { (place : ℕ) → result ≡ Err (SpillFault.Damaged place) → StopsAt bytes.now place }
 {
+    let flat = match decode_flat(alloc, bytes) {
+        Ok(flat) => flat,
+        Err(fault) => return Err(fault),
+    };
+    let Ok(sheets) = sheets_in(alloc, &flat.sheets) else {
+        return Err(SpillFault::NoMemory);
+    };
+    Ok(Spill {
+        split: flat.split,
+        attempt: flat.attempt,
+        from: flat.from,
+        to: flat.to,
+        sheets,
+    })
+}
+
+/// The same with the sheets kept as bytes: each is copied whole, and no pair of it is allocated.
+pub fn decode_flat(alloc: Global, bytes: &[u8]) -> Result<FlatSpill, SpillFault>
+    // What is read is spelled so.
+    ensures found { IfOk result (λ spill. IsSpill (spill_in spill) × (bytes.now ≡ spill_text (spill_in spill))) }
+    // What is spelled so is read.
+    ensures only { (spill : Spill) → IsSpill spill → bytes.now ≡ spill_text spill → IsAnswer (answer_in result) (Ok spill) }
+    // Which place it is.
+    ensures place { IsAnswer (answer_in result) (read_spill bytes.now) }
+    // No spill's text that begins as the bytes do before the place goes on with a piece that stands there.
+    ensures stops { (place : ℕ) → result ≡ Err (SpillFault.Damaged place) → StopsAt bytes.now place }
+{
     match whole(alloc, bytes) {
         Ok(spill) => Ok(spill),
         Err(Stop::NoMemory) => Err(SpillFault::NoMemory),
@@ -49,10 +75,21 @@ pub fn decode(alloc: Global, bytes: &[u8]) -> Result<Spill, SpillFault>
     }
 }
 
+// The pairs of sheets that are kept as bytes.
+fn sheets_in(alloc: Global, flat: &FlatSheets) -> Result<Sheets, NoMemory>
+    ensures { IfOk result (λ sheets. sheets ≡ flat.now) }
+{
+    let mut sheets = Listed::new(alloc);
+    for sheet in flat.as_slice() {
+        sheets.push(sheet.to_sheet()?)?;
+    }
+    Ok(sheets)
+}
+
 // The spill that is all of the bytes.
 #[tactic(auto, unfolding(crate::specs::Reading::spill_at))]
-fn whole(alloc: Global, bytes: &[u8]) -> Result<Spill, Stop>
-    ensures { Gives (λ x. x) result (spill_at bytes.now) }
+fn whole(alloc: Global, bytes: &[u8]) -> Result<FlatSpill, Stop>
+    ensures { Gives spill_in result (spill_at bytes.now) }
 {
     let (spill, rest) = front(alloc, bytes)?;
     if !rest.is_empty() {
@@ -63,12 +100,12 @@ fn whole(alloc: Global, bytes: &[u8]) -> Result<Spill, Stop>
 
 // The spill at the front, and what follows it.
 #[tactic(auto, unfolding(crate::specs::Reading::front_at))]
-fn front(alloc: Global, bytes: &[u8]) -> Result<(Spill, &[u8]), Stop>
-    ensures { Gives (λ x. (x.0, x.1.now)) result (front_at bytes.now) }
+fn front(alloc: Global, bytes: &[u8]) -> Result<(FlatSpill, &[u8]), Stop>
+    ensures { Gives (λ x. (spill_in x.0, x.1.now)) result (front_at bytes.now) }
 {
     let (head, rest) = head_of(bytes)?;
     let (sheets, rest) = sheets_of(alloc, head.reducers, rest)?;
-    let spill = Spill {
+    let spill = FlatSpill {
         split: head.split,
         attempt: head.attempt,
         from: head.from,
@@ -102,7 +139,7 @@ fn head_of(bytes: &[u8]) -> Result<(Head, &[u8]), Stop>
 }
 
 // The sheets of so many reducers, and what follows them.
-fn sheets_of(alloc: Global, reducers: u8, bytes: &[u8]) -> Result<(Sheets, &[u8]), Stop>
+fn sheets_of(alloc: Global, reducers: u8, bytes: &[u8]) -> Result<(FlatSheets, &[u8]), Stop>
     requires some { 1 ≤ reducers }
     requires few { reducers ≤ 8 }
     ensures { Gives (λ x. (x.0, x.1.now)) result (sheets_at reducers 0 reducers bytes.now) }
@@ -119,14 +156,15 @@ fn sheets_of(alloc: Global, reducers: u8, bytes: &[u8]) -> Result<(Sheets, &[u8]
 
 // The sheet of partition p of r, and what follows it.
 #[tactic(auto, unfolding(crate::specs::Reading::sheet_at))]
-fn sheet_of(alloc: Global, p: u8, r: u8, bytes: &[u8]) -> Result<(Sheet, &[u8]), Stop>
+fn sheet_of(alloc: Global, p: u8, r: u8, bytes: &[u8]) -> Result<(FlatSheet, &[u8]), Stop>
     requires some { 1 ≤ r }
     requires few { r ≤ 8 }
     ensures { Gives (λ x. (x.0, x.1.now)) result (sheet_at p r bytes.now) }
 {
     let (count, rest) = word(bytes)?;
     let (pairs, rest) = pairs_of(alloc, count, p, r, rest)?;
-    Ok((Sheet::from_sorted(pairs), rest))
+    let sheet = pairs.finish()?;
+    Ok((sheet, rest))
 }
 
 // So many pairs of partition p of r, in order, and what follows them.
@@ -136,17 +174,19 @@ fn pairs_of(
     p: u8,
     r: u8,
     bytes: &[u8],
-) -> Result<(Vec<Pair>, &[u8]), Stop>
+) -> Result<(FlatSheetBuilder, &[u8]), Stop>
     requires some { 1 ≤ r }
     requires few { r ≤ 8 }
-    ensures { Gives (λ x. (x.0.items, x.1.now)) result (pairs_at count p r None bytes.now) }
+    ensures { Gives (λ x. (x.0, x.1.now)) result (pairs_at count p r None bytes.now) }
 {
     let room = (count as usize).min(bytes.len() / LEAST_PAIR);
-    let mut pairs = Vec::with_capacity(alloc, room)?;
+    let mut pairs = FlatSheetBuilder::with_room(alloc, 0, room)?;
+    let mut before = None;
     let mut rest = bytes;
     for _ in 0..count {
-        let (pair, after) = pair_of(alloc, p, r, pairs.last(), rest)?;
-        pairs.push(pair)?;
+        let (pair, after) = pair_of(p, r, before, rest)?;
+        pairs.push_view(&pair)?;
+        before = Some(pair);
         rest = after;
     }
     Ok((pairs, rest))
@@ -155,41 +195,37 @@ fn pairs_of(
 // The pair of partition p of r at the front, behind the one before it, and what follows it.
 #[tactic(auto, unfolding(crate::specs::Reading::pair_at))]
 fn pair_of<'a>(
-    alloc: Global,
     p: u8,
     r: u8,
-    before: Option<&Pair>,
+    before: Option<PairView<'a>>,
     bytes: &'a [u8],
-) -> Result<(Pair, &'a [u8]), Stop>
+) -> Result<(PairView<'a>, &'a [u8]), Stop>
     requires some { 1 ≤ r }
     requires few { r ≤ 8 }
-    ensures { Gives (λ x. (x.0, x.1.now)) result (pair_at p r (option_copied before.entry) bytes.now) }
+    ensures { Gives (λ x. (x.0, x.1.now)) result (pair_at p r before.entry bytes.now) }
 {
-    let (key, rest) = blob(alloc, bytes)?;
+    let (key, rest) = counted(bytes)?;
     let (n, rest) = long(rest)?;
-    let (s, rest) = blob(alloc, rest)?;
-    let pair = Pair {
-        key,
-        val: Val { n, s },
-    };
-    if !may_follow(p, r, before, &pair) {
+    let (text, rest) = counted(rest)?;
+    let pair = PairView { key, n, text };
+    if !may_follow(p, r, &before, &pair) {
         return Err(Stop::Left(bytes.len()));
     }
     Ok((pair, rest))
 }
 
 // Whether the pair may stand behind the one before it, in the sheet of partition p of r.
-fn may_follow(p: u8, r: u8, before: Option<&Pair>, pair: &Pair) -> bool
+fn may_follow(p: u8, r: u8, before: &Option<PairView<'_>>, pair: &PairView<'_>) -> bool
     requires some { 1 ≤ r }
     requires few { r ≤ 8 }
-    ensures { result ≡ may_follow p r (option_copied before.entry) pair.now }
+    ensures { result ≡ may_follow p r before.now pair.now }
 {
-    !is_smaller(before, pair) && partition(pair.key.as_slice(), r) == p
+    !is_smaller(before, pair) && partition(pair.key, r) == p
 }
 
 // Whether the pair is smaller than the one before it.
-fn is_smaller(before: Option<&Pair>, pair: &Pair) -> bool
-    ensures { result ≡ is_smaller (option_copied before.entry) pair.now }
+fn is_smaller(before: &Option<PairView<'_>>, pair: &PairView<'_>) -> bool
+    ensures { result ≡ is_smaller before.now pair.now }
 {
     match before {
         Some(before) => before > pair,

@@ -1,11 +1,12 @@
 //! Spills written as bytes.
-ghost use Rattle.std.specs.Prelude.{◌≡◌, ◌<◌, ◌^◌, ◌++◌, ℕ, List, [], IfOk, OnOk, length};
+ghost use Rattle.std.specs.Prelude.{◌≡◌, ◌<◌, ◌^◌, ◌++◌, ℕ, List, [], IfOk, OnOk, length, slice_index};
 ghost use Rattle.hop_spill.specs.declared.spill.Spill.{Spill};
-ghost use Rattle.hop_spill.specs.Spelling.{IsSpill, word, long, counted, pair_text, sheet_text, head_text, spill_text};
+ghost use Rattle.hop_base.specs.Fields.{word, long, counted, pair_text};
+ghost use Rattle.hop_spill.specs.Spelling.{IsSpill, head_fields, sheet_text, head_text, spill_in, spill_text};
 
 use crate::fields::MAGIC;
-use crate::spill::Spill;
-use hop_base::{NoMemory, Pair, Sheet};
+use crate::spill::{FlatSpill, Spill};
+use hop_base::{FlatSheet, NoMemory, Pair, Sheet};
 use std::alloc::Global;
 
 /// The one text of a spill: the letters HSP1, then split, attempt, from, to and the number of reducers,
@@ -19,6 +20,48 @@ pub fn encode(alloc: Global, spill: &Spill) -> Result<Vec<u8>, NoMemory>
     ensures apart { (other : Spill) (rest : List ℕ) → IsSpill other → spill_text other ≡ spill_text spill.now ++ rest → (rest ≡ []) × (other ≡ spill.now) }
 {
     written(alloc, spill)
+}
+
+/// The same text of a spill whose sheets are kept as bytes: these are copied whole, each behind the number
+/// of its pairs.
+pub fn encode_flat(alloc: Global, spill: &FlatSpill) -> Result<Vec<u8>, NoMemory>
+    requires { IsSpill (spill_in spill.now) }
+    ensures text { IfOk result (λ text. text.items ≡ spill_text (spill_in spill.now)) }
+
+    // No other spill's text begins with it.
+    ensures apart { (other : Spill) (rest : List ℕ) → IsSpill other → spill_text other ≡ spill_text (spill_in spill.now) ++ rest → (rest ≡ []) × (other ≡ spill_in spill.now) }
+{
+    written_flat(alloc, spill)
+}
+
+// The head and the sheets, which are bytes already.
+#[tactic(auto, unfolding(crate::specs::Spelling::spill_text, crate::specs::Spelling::head_text))]
+fn written_flat(alloc: Global, spill: &FlatSpill) -> Result<Vec<u8>, NoMemory>
+    requires { IsSpill (spill_in spill.now) }
+    ensures { IfOk result (λ text. text.items ≡ spill_text (spill_in spill.now)) }
+{
+    let sheets = spill.sheets.as_slice();
+    let mut text = Vec::new(alloc);
+    push_fields(
+        &mut text,
+        [spill.split, u32::from(spill.attempt), spill.from, spill.to],
+        sheets.len() as u32,
+    )?;
+    for sheet in sheets {
+        push_flat(&mut text, sheet)?;
+    }
+    Ok(text)
+}
+
+// A sheet that is bytes already, behind the number of its pairs.
+#[tactic(auto, unfolding(crate::specs::Spelling::sheet_text))]
+fn push_flat(text: &mut Vec<u8>, sheet: &FlatSheet) -> Result<(), NoMemory>
+    requires { length sheet.now < 2 ^ 32 }
+    ensures { OnOk result (text.new.items ≡ text.old.items ++ sheet_text sheet.now) }
+{
+    push_word(text, sheet.len() as u32)?;
+    text.extend_from_slice(sheet.bytes())?;
+    Ok(())
 }
 
 // The head and the sheets.
@@ -41,12 +84,24 @@ fn push_head(text: &mut Vec<u8>, spill: &Spill) -> Result<(), NoMemory>
     requires { length spill.now.sheets < 2 ^ 32 }
     ensures { OnOk result (text.new.items ≡ text.old.items ++ head_text spill.now) }
 {
+    push_fields(
+        text,
+        [spill.split, u32::from(spill.attempt), spill.from, spill.to],
+        spill.sheets.as_slice().len() as u32,
+    )
+}
+
+// The letters, these four fields and the number of reducers.
+fn push_fields(text: &mut Vec<u8>, fields: [u32; 4], reducers: u32) -> Result<(), NoMemory>
+    ensures { OnOk result (text.new.items ≡ text.old.items ++ head_fields (slice_index fields 0) (slice_index fields 1) (slice_index fields 2) (slice_index fields 3) reducers) }
+{
+    let [split, attempt, from, to] = fields;
     push_word(text, MAGIC)?;
-    push_word(text, spill.split)?;
-    push_word(text, u32::from(spill.attempt))?;
-    push_word(text, spill.from)?;
-    push_word(text, spill.to)?;
-    push_word(text, spill.sheets.as_slice().len() as u32)?;
+    push_word(text, split)?;
+    push_word(text, attempt)?;
+    push_word(text, from)?;
+    push_word(text, to)?;
+    push_word(text, reducers)?;
     Ok(())
 }
 
@@ -63,7 +118,7 @@ fn push_sheet(text: &mut Vec<u8>, pairs: &[Pair]) -> Result<(), NoMemory>
     Ok(())
 }
 
-#[tactic(auto, unfolding(crate::specs::Spelling::pair_text))]
+#[tactic(auto, unfolding(hop_base::specs::Fields::pair_text))]
 fn push_pair(text: &mut Vec<u8>, pair: &Pair) -> Result<(), NoMemory>
     ensures { OnOk result (text.new.items ≡ text.old.items ++ pair_text pair.now) }
 {
@@ -74,7 +129,7 @@ fn push_pair(text: &mut Vec<u8>, pair: &Pair) -> Result<(), NoMemory>
 }
 
 // The bytes behind their number.
-#[tactic(auto, unfolding(crate::specs::Spelling::counted))]
+#[tactic(auto, unfolding(hop_base::specs::Fields::counted))]
 fn push_counted(text: &mut Vec<u8>, bytes: &[u8]) -> Result<(), NoMemory>
     requires { length bytes.now < 2 ^ 32 }
     ensures { OnOk result (text.new.items ≡ text.old.items ++ counted bytes.now) }
@@ -85,7 +140,7 @@ fn push_counted(text: &mut Vec<u8>, bytes: &[u8]) -> Result<(), NoMemory>
 }
 
 // A number of four bytes.
-#[tactic(auto, unfolding(crate::specs::Spelling::word))]
+#[tactic(auto, unfolding(hop_base::specs::Fields::word))]
 fn push_word(text: &mut Vec<u8>, number: u32) -> Result<(), NoMemory>
     ensures { OnOk result (text.new.items ≡ text.old.items ++ word number) }
 {
@@ -94,7 +149,7 @@ fn push_word(text: &mut Vec<u8>, number: u32) -> Result<(), NoMemory>
 }
 
 // A number of eight bytes.
-#[tactic(auto, unfolding(crate::specs::Spelling::long))]
+#[tactic(auto, unfolding(hop_base::specs::Fields::long))]
 fn push_long(text: &mut Vec<u8>, number: u64) -> Result<(), NoMemory>
     ensures { OnOk result (text.new.items ≡ text.old.items ++ long number) }
 {

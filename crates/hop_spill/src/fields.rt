@@ -1,13 +1,11 @@
 //! The fields of a spill's text.
-ghost use Rattle.std.specs.Prelude.{◌≤◌, IfOk};
+ghost use Rattle.std.specs.Prelude.{◌≤◌, length, IfOk};
 ghost use Rattle.std.specs.Int.{w32, w64};
 ghost use Rattle.hop_spill.specs.Reading.{number_at, word_within, blob_at};
 ghost use Rattle.hop_spill.specs.Answers.{Gives};
 
 use crate::stop::Stop;
-use hop_base::Blob;
 use hop_base::limits::MAX_BLOB;
-use std::alloc::Global;
 
 // The letters HSP1, as a number.
 pub const MAGIC: u32 = 0x4853_5031;
@@ -53,15 +51,14 @@ pub fn word_within(low: u32, high: u32, bytes: &[u8]) -> Result<(u32, &[u8]), St
 
 // The bytes behind their number at the front, and what follows them.
 #[tactic(auto, unfolding(crate::specs::Reading::blob_at))]
-pub fn blob(alloc: Global, bytes: &[u8]) -> Result<(Blob, &[u8]), Stop>
-    ensures { Gives (λ x. (x.0, x.1.now)) result (blob_at bytes.now) }
+pub fn counted(bytes: &[u8]) -> Result<(&[u8], &[u8]), Stop>
+    ensures reading { Gives (λ x. (x.0.now, x.1.now)) result (blob_at bytes.now) }
+    ensures short { IfOk result (λ x. length x.0.now ≤ 131071) }
 {
     let (len, rest) = word_within(0, MAX_BLOB as u32, bytes)?;
     let len = len as usize;
     if rest.len() < len {
         return Err(Stop::Left(rest.len()));
     }
-    let (front, rest) = rest.split_at(len);
-    let blob = Blob::from_short(alloc, front)?;
-    Ok((blob, rest))
+    Ok(rest.split_at(len))
 }

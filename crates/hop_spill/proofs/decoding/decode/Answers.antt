@@ -1,19 +1,13 @@
-use Rattle.std.proofs.Common.{ap, sym, ◌∙◌, arith}
-use Rattle.hop_spill.specs.Reading.{spill_at}
-use Rattle.hop_spill.proofs.PlaceLaws.{stops_as_answered}
-use Rattle.hop_spill.proofs.SpillLaws.{spill_takes, spill_again, not_stopped}
+use Rattle.std.proofs.Common.{◌≡◌, ℕ, Result, Err, ap}
+use Rattle.hop_spill.specs.declared.spill.Spill.{Spill}
+use Rattle.hop_spill.specs.declared.spill.FlatSpill.{FlatSpill}
+use Rattle.hop_spill.specs.declared.spill.SpillFault.{SpillFault}
+use Rattle.hop_spill.specs.declared.spill.SpillFault.TheVariants as fault
 use Rattle.hop_spill.proofs.decoding.decode.Goals as goal
 
-pub returns-in-Ok-clause-found : goal.returns-in-Ok-clause-found
-returns-in-Ok-clause-found c = spill_takes c.args.bytes.now c.in-Ok.spill (λ i. omega (arith, c.type_inv.bytes i)) c.in-Ok.ensures
+-- one fault, of one type of answer and of another
+same_fault : (a b : SpillFault) → ◌≡◌ {A = Result Spill SpillFault} (Err a) (Err b) → ◌≡◌ {A = Result FlatSpill SpillFault} (Err a) (Err b)
+same_fault a b e = let same : a ≡ b = cc in ap (λ (f : SpillFault). Err f) same
 
-pub returns-in-Ok-clause-only : goal.returns-in-Ok-clause-only
-returns-in-Ok-clause-only c = λ spill h e. sym (ap spill_at e ∙ spill_again spill h) ∙ c.in-Ok.ensures
-
-pub returns-in-Err-Left-clause-only : goal.returns-in-Err-Left-clause-only
-returns-in-Err-Left-clause-only c = λ spill h e. absurd (not_stopped (spill_at c.args.bytes.now) spill c.in-Err-Left.left (ap spill_at e ∙ spill_again spill h) (rw c.in-Err-Left.field-0-is at c.in-Err-Left.ensures))
-
-pub returns-in-Err-Left-clause-stops : goal.returns-in-Err-Left-clause-stops
-returns-in-Err-Left-clause-stops c = λ place e.
-    let left = c.in-Err-Left.left in
-    stops_as_answered c.args.bytes.now left c.saturating_sub.result place (rw c.in-Err-Left.field-0-is at c.in-Err-Left.ensures) (c.saturating_sub.ensures) e
+pub returns-in-Err-clause-stops : goal.returns-in-Err-clause-stops
+returns-in-Err-clause-stops c = λ place e. c.in-Err.ensures.stops place (same_fault c.in-Err.fault (fault.Damaged place) e)
