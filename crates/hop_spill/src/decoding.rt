@@ -75,8 +75,8 @@ pub fn decode_flat(alloc: Global, bytes: &[u8]) -> Result<FlatSpill, SpillFault>
     }
 }
 
-// The pairs of sheets that are kept as bytes.
-fn sheets_in(alloc: Global, flat: &FlatSheets) -> Result<Sheets, NoMemory>
+/// The pairs of sheets that are kept as bytes.
+pub fn sheets_in(alloc: Global, flat: &FlatSheets) -> Result<Sheets, NoMemory>
     ensures { IfOk result (λ sheets. sheets ≡ flat.now) }
 {
     let mut sheets = Listed::new(alloc);

@@ -10,6 +10,6 @@ pub mod laws;
 pub mod spill;
 mod stop;
 
-pub use decoding::{decode, decode_flat};
+pub use decoding::{decode, decode_flat, sheets_in};
 pub use encoding::{encode, encode_flat};
 pub use spill::{FlatSpill, Spill, SpillFault};

@@ -6,13 +6,14 @@ ghost use Rattle.hop_ports.specs.Causes.{OnlyRead};
 ghost use Rattle.hop_vault.specs.Rows.{range_of};
 ghost use Rattle.hop_spill.specs.SpillFiles.{name_of};
 ghost use Rattle.hop_vault.specs.Stored.{IsStored, AreStored, IsFetched, AreFetched, first_other, sheet_of};
+ghost use Rattle.hop_spill.specs.Spelling.{spill_in};
 ghost use Rattle.hop_vault.specs.Reads.{GotCause, GetsAnswered, IsOpened, OpenedCause, ReadCause, ReadsCause};
 
 use crate::kept::{FetchFault, Kept};
 use crate::names::spill_name;
-use hop_base::{Listed, NoMemory, Part, Sheet, Sheets};
+use hop_base::{FlatSheet, FlatSheets, Listed, NoMemory, Part};
 use hop_ports::{Folder, GetFault};
-use hop_spill::{Spill, SpillFault, decode};
+use hop_spill::{FlatSpill, SpillFault, decode_flat};
 use sha2::{Digest, Sha256};
 use std::alloc::Global;
 
@@ -66,7 +67,7 @@ pub fn read_all<V: Folder>(
     attempt: u8,
     p: u8,
     spills: &[Kept],
-) -> Result<Sheets, FetchFault>
+) -> Result<FlatSheets, FetchFault>
     requires stored { IfSome (V.seen folder.old).held (λ files. AreStored files split attempt spills.now) }
     requires within { All (λ kept. p < kept.sheets) spills.now }
     ensures left { OnlyRead (V.seen folder.old) (V.seen folder.new) }
@@ -94,7 +95,7 @@ fn read<V: Folder>(
     attempt: u8,
     p: u8,
     kept: &Kept,
-) -> Result<Sheet, FetchFault>
+) -> Result<FlatSheet, FetchFault>
     requires stored { IfSome (V.seen folder.old).held (λ files. IsStored files split attempt kept.now) }
     requires within { p < kept.now.sheets }
     ensures left { OnlyRead (V.seen folder.old) (V.seen folder.new) }
@@ -120,7 +121,7 @@ pub fn opened(
     p: u8,
     digest: &[u8; 32],
     bytes: &[u8],
-) -> Result<Sheet, FetchFault>
+) -> Result<FlatSheet, FetchFault>
     ensures found { IfOk result (λ sheet. IsOpened at p digest.now bytes.now sheet) }
     ensures cause { IfErr result (OpenedCause at p digest.now bytes.now) }
 {
@@ -132,7 +133,7 @@ pub fn opened(
             found,
         });
     }
-    match decode(alloc, bytes) {
+    match decode_flat(alloc, bytes) {
         Ok(spill) => match first_other(at, p, &spill) {
             Some(place) => Err(FetchFault::Collides { at, place }),
             None => Ok(sheet_at(spill, p)),
@@ -143,17 +144,17 @@ pub fn opened(
 }
 
 // The sheet of partition p.
-fn sheet_at(spill: Spill, p: u8) -> Sheet
+fn sheet_at(spill: FlatSpill, p: u8) -> FlatSheet
     requires { p < length spill.sheets }
-    ensures { result ≡ sheet_of spill p }
+    ensures { result ≡ sheet_of (spill_in spill) p }
 {
-    let Spill { sheets, .. } = spill;
+    let FlatSpill { sheets, .. } = spill;
     sheets.into_vec().remove(p as usize)
 }
 
 // Where a spill's text first differs from one of the range that has a sheet p, if it does.
-fn first_other(at: Part, p: u8, spill: &Spill) -> Option<u64>
-    ensures { result ≡ first_other at p spill.now }
+fn first_other(at: Part, p: u8, spill: &FlatSpill) -> Option<u64>
+    ensures { result ≡ first_other at p (spill_in spill.now) }
 {
     if spill.split != at.split {
         Some(4)

@@ -2,7 +2,7 @@
 ghost use Rattle.std.specs.Prelude.{◌≡◌, ◌↔◌, IsTrue, ◌<◌, ◌≤◌, [], ℕ, true, false, nat_lt, nat_le, length, All, None, Some, Ok, Err, IfOk, IfErr, OnOk, MatchOption, string_bytes};
 ghost use Rattle.std.specs.List.Sorted.{IsPartitionPoint};
 ghost use Rattle.hop_ports.specs.Causes.{OnlyRead, OnlyPut};
-ghost use Rattle.hop_spill.specs.Spelling.{IsSpill, spill_text};
+ghost use Rattle.hop_spill.specs.Spelling.{IsSpill, spill_in, spill_text};
 ghost use Rattle.hop_vault.specs.Rows.{row_of, end_of, kept_end, IsChain, IsStretch, NoStretch};
 ghost use Rattle.hop_spill.specs.SpillFiles.{name_of};
 ghost use Rattle.hop_vault.specs.Vaults.{IsKept, IsKeptIn, KeepCause, not_put};
@@ -11,9 +11,9 @@ use crate::kept::{FetchFault, KeepFault, Kept};
 use crate::names::spill_name;
 use crate::reading::{digest_of, read_all};
 use crate::rows::Rows;
-use hop_base::{NoMemory, Part, Sheets};
+use hop_base::{FlatSheet, FlatSheets, Listed, NoMemory, Part, Sheets};
 use hop_ports::{Folder, PutFault};
-use hop_spill::{Spill, encode};
+use hop_spill::{FlatSpill, Spill, encode_flat, sheets_in};
 use std::alloc::Global;
 use std::marker::Model;
 
@@ -81,6 +81,22 @@ impl<V: Folder> Vault<V> {
         ensures kept { OnOk result (IsKeptIn (V.seen self.old.folder) (V.seen self.new.folder) self.old.rows self.new.rows spill.now) }
         ensures cause { IfErr result (KeepCause (V.seen self.old.folder) (V.seen self.new.folder) self.old.rows self.new.rows spill.now) }
     {
+        let Ok(flat) = flat_of(self.alloc, spill) else {
+            return Err(KeepFault::NoMemory);
+        };
+        self.keep_flat(&flat)
+    }
+
+    /// The same of a spill whose sheets are kept as bytes: none of its pairs is looked at.
+    pub fn keep_flat(&mut self, spill: &FlatSpill) -> Result<(), KeepFault>
+        requires spill { IsSpill (spill_in spill.now) }
+        requires next { spill.now.from ≡ kept_end self.old.rows spill.now.split spill.now.attempt }
+        ensures worker { self.new.worker ≡ self.old.worker }
+        ensures counts { OnlyPut (V.seen self.old.folder) (V.seen self.new.folder) }
+        ensures no_fault { OnOk result ((V.seen self.new.folder).puts ≡ (V.seen self.old.folder).puts) }
+        ensures kept { OnOk result (IsKeptIn (V.seen self.old.folder) (V.seen self.new.folder) self.old.rows self.new.rows (spill_in spill.now)) }
+        ensures cause { IfErr result (KeepCause (V.seen self.old.folder) (V.seen self.new.folder) self.old.rows self.new.rows (spill_in spill.now)) }
+    {
         let Ok(file) = file_of(self.alloc, spill) else {
             return Err(KeepFault::NoMemory);
         };
@@ -98,6 +114,29 @@ impl<V: Folder> Vault<V> {
     /// such a sheet: [`Vault::has_sheets`] tells. It changes nothing that is kept or held, and a get that failed
     /// is answered by `StoreFailed`.
     pub fn fetch(&mut self, part: Part, p: u8) -> Result<Sheets, FetchFault>
+        requires { All (λ kept. p < kept.sheets) (row_of self.old.rows part.split part.attempt) }
+        ensures rows { self.new.rows ≡ self.old.rows }
+        ensures worker { self.new.worker ≡ self.old.worker }
+        ensures left { OnlyRead (V.seen self.old.folder) (V.seen self.new.folder) }
+        ensures no_fault { OnOk result ((V.seen self.new.folder).gets ≡ (V.seen self.old.folder).gets) }
+        ensures answered { IfErr result (GetsAnswered (V.seen self.old.folder) (V.seen self.new.folder)) }
+        ensures found { IfOk result (Fetches (V.seen self.old.folder).held self.old.rows part p) }
+        ensures held { IfOk result (AreOfHeld (V.seen self.old.folder).held part p) }
+        ensures not_kept { NoStretch (row_of self.old.rows part.split part.attempt) part.from part.to → result ≡ Err (FetchFault.NotKept (kept_end self.old.rows part.split part.attempt)) }
+        ensures cause { IfErr result (FetchCause V.seen self.old self.new part p) }
+    {
+        let flat = match self.fetch_flat(part, p) {
+            Ok(flat) => flat,
+            Err(fault) => return Err(fault),
+        };
+        match sheets_in(self.alloc, &flat) {
+            Ok(sheets) => Ok(sheets),
+            Err(NoMemory) => Err(FetchFault::NoMemory),
+        }
+    }
+
+    /// The same sheets, kept as bytes: no pair of them is allocated.
+    pub fn fetch_flat(&mut self, part: Part, p: u8) -> Result<FlatSheets, FetchFault>
         requires { All (λ kept. p < kept.sheets) (row_of self.old.rows part.split part.attempt) }
         ensures rows { self.new.rows ≡ self.old.rows }
         ensures worker { self.new.worker ≡ self.old.worker }
@@ -139,12 +178,29 @@ struct SpillFile {
     kept: Kept,
 }
 
-// The file of a spill.
-fn file_of(alloc: Global, spill: &Spill) -> Result<SpillFile, NoMemory>
-    requires { IsSpill spill.now }
-    ensures { IfOk result (λ file. (string_bytes file.name ≡ name_of spill.now.split spill.now.attempt spill.now.from) × (file.text.items ≡ spill_text spill.now) × IsKept spill.now file.kept) }
+// The spill with its sheets as bytes.
+fn flat_of(alloc: Global, spill: &Spill) -> Result<FlatSpill, NoMemory>
+    ensures { IfOk result (λ flat. spill_in flat ≡ spill.now) }
 {
-    let text = encode(alloc, spill)?;
+    let mut sheets = Listed::new(alloc);
+    for sheet in spill.sheets.as_slice() {
+        sheets.push(FlatSheet::from_sheet(alloc, sheet)?)?;
+    }
+    Ok(FlatSpill {
+        split: spill.split,
+        attempt: spill.attempt,
+        from: spill.from,
+        to: spill.to,
+        sheets,
+    })
+}
+
+// The file of a spill.
+fn file_of(alloc: Global, spill: &FlatSpill) -> Result<SpillFile, NoMemory>
+    requires { IsSpill (spill_in spill.now) }
+    ensures { IfOk result (λ file. (string_bytes file.name ≡ name_of spill.now.split spill.now.attempt spill.now.from) × (file.text.items ≡ spill_text (spill_in spill.now)) × IsKept (spill_in spill.now) file.kept) }
+{
+    let text = encode_flat(alloc, spill)?;
     let name = spill_name(alloc, spill.split, spill.attempt, spill.from)?;
     let kept = Kept {
         from: spill.from,
@@ -160,16 +216,16 @@ fn file_of(alloc: Global, spill: &Spill) -> Result<SpillFile, NoMemory>
 fn store<V: Folder>(
     folder: &mut V,
     rows: &mut Rows,
-    spill: &Spill,
+    spill: &FlatSpill,
     file: &SpillFile,
 ) -> Result<(), KeepFault>
     requires name { string_bytes file.now.name ≡ name_of spill.now.split spill.now.attempt spill.now.from }
-    requires text { file.now.text.items ≡ spill_text spill.now }
-    requires known { IsKept spill.now file.now.kept }
+    requires text { file.now.text.items ≡ spill_text (spill_in spill.now) }
+    requires known { IsKept (spill_in spill.now) file.now.kept }
     ensures counts { OnlyPut (V.seen folder.old) (V.seen folder.new) }
     ensures no_fault { OnOk result ((V.seen folder.new).puts ≡ (V.seen folder.old).puts) }
-    ensures kept { OnOk result (IsKeptIn (V.seen folder.old) (V.seen folder.new) rows.old rows.new spill.now) }
-    ensures cause { IfErr result (KeepCause (V.seen folder.old) (V.seen folder.new) rows.old rows.new spill.now) }
+    ensures kept { OnOk result (IsKeptIn (V.seen folder.old) (V.seen folder.new) rows.old rows.new (spill_in spill.now)) }
+    ensures cause { IfErr result (KeepCause (V.seen folder.old) (V.seen folder.new) rows.old rows.new (spill_in spill.now)) }
 {
     let Ok(()) = rows.add(spill.split, spill.attempt, file.kept) else {
         return Err(KeepFault::NoMemory);

@@ -5,7 +5,7 @@ use Rattle.hop_vault.specs.Rows.{row_of, end_of, NoStretch}
 use Rattle.hop_vault.specs.Vaults.{VaultValue, AreOfHeld}
 use Rattle.hop_vault.proofs.ReadLaws.{stored_stretch, all_of_held}
 use Rattle.hop_vault.proofs.StretchLaws.{All-stretch}
-use Rattle.hop_vault.proofs.vault.Vault.fetch.Goals as goal
+use Rattle.hop_vault.proofs.vault.Vault.fetch_flat.Goals as goal
 
 pub read_all-requires-clause-stored : goal.read_all-requires-clause-stored
 read_all-requires-clause-stored g c =
