@@ -1,15 +1,14 @@
 //! Cuts, and the texts of their snapshots.
-ghost use Rattle.std.specs.Prelude.{◌≡◌, ◌<◌, ℕ, List, IfOk, IsPermutation, length};
+ghost use Rattle.std.specs.Prelude.{◌≡◌, ◌<◌, ℕ, List, IfOk, length};
 ghost use Rattle.std.specs.List.{flat_map};
-ghost use Rattle.hop_base.specs.declared.value.Pair.{Pair};
 ghost use Rattle.hop_laws.specs.Groups.{red};
 ghost use Rattle.hop_cut.specs.Snapshot.{header_lines, text_of};
 ghost use Rattle.hop_cut.specs.Covered.{IsOfCoverage, snapshot_text, text_with, header_of};
 
 use crate::texts::{push_first, push_splits};
-use hop_base::{Lens, Listed, NoMemory, Pair, Sheet, Text};
+use hop_base::{Lens, Listed, NoMemory, Text};
 use hop_cover::Declares;
-use hop_laws::{Job, reduce_sheet};
+use hop_laws::{Job, reduce_flat};
 use hop_run::{Run, Runs};
 use std::alloc::Global;
 
@@ -92,18 +91,7 @@ fn header(
 fn body<J: Job>(alloc: Global, job: &J, runs: &[Run]) -> Result<Vec<u8>, NoMemory>
     ensures { IfOk result (λ text. text.items ≡ red (J.meaning job.now).reduced (flat_map (λ run. run.sheet) runs.now)) }
 {
-    let sheet = whole_sheet(alloc, runs)?;
-    let text = reduce_sheet(alloc, job, &sheet)?;
+    let flat = Run::merged_pairs(alloc, runs)?;
+    let text = reduce_flat(alloc, job, &flat)?;
     Ok(text)
-}
-
-// The pairs of all these runs, in order.
-fn whole_sheet(alloc: Global, runs: &[Run]) -> Result<Sheet, NoMemory>
-    ensures { IfOk result (λ sheet. IsPermutation (flat_map (λ run. run.sheet) runs.now) sheet) }
-{
-    let mut pairs = Vec::new(alloc);
-    for run in runs {
-        Pair::copy_all(run.sheet().as_slice(), &mut pairs)?;
-    }
-    Ok(Sheet::from_pairs(pairs))
 }

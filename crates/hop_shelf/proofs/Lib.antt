@@ -1,5 +1,6 @@
 pub mod Chains
 pub mod CoveredParts
+pub mod CoveringLaws
 pub mod CutLaws
 pub mod JournalLaws
 pub mod KnownLaws

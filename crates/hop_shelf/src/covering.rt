@@ -1,14 +1,16 @@
 //! What a history covers, and the runs of it.
 ghost use Rattle.std.specs.Prelude.{◌≡◌, length, map, filter, IfOk};
 ghost use Rattle.std.specs.List.{range_with_len, flat_map};
+ghost use Rattle.hop_base.specs.Order.{pair_cmp};
+ghost use Rattle.hop_base.specs.Sorted.{ord};
 ghost use Rattle.hop_event.specs.Coverage.{declared};
 ghost use Rattle.hop_shelf.specs.Covered.{covers_in};
 
 use crate::journal::Journal;
 use crate::kept::{Kept, Owner};
-use hop_base::{Listed, NoMemory, Pair};
+use hop_base::{FlatSheet, Listed, NoMemory};
 use hop_cover::{Declared, Declares};
-use hop_run::{Run, Runs};
+use hop_run::{Heads, Run, Runs};
 use std::alloc::Global;
 
 // Whether these declarations cover the runs of an owner.
@@ -41,21 +43,21 @@ pub(crate) fn runs_of(
     Ok(Listed::from_vec(runs))
 }
 
-/// Copies of the pairs of these runs.
-pub(crate) fn pairs_of_all(
+/// The pairs of the runs that these declarations cover, in order.
+pub(crate) fn merged_of(
     alloc: Global,
     declarations: &[Option<Declared>],
     kept: &[Kept],
-) -> Result<Vec<Pair>, NoMemory>
-    ensures { IfOk result (λ pairs. pairs.items ≡ flat_map (λ r. r.sheet) (map (λ k. k.run) (filter (λ k. covers_in declarations.now k.owner) kept.now))) }
+) -> Result<FlatSheet, NoMemory>
+    ensures { IfOk result (λ flat. flat ≡ ord pair_cmp (flat_map (λ r. r.sheet) (map (λ k. k.run) (filter (λ k. covers_in declarations.now k.owner) kept.now)))) }
 {
-    let mut pairs = Vec::new(alloc);
+    let mut heads = Heads::new(alloc);
     for one in kept {
         if covers(declarations, one.owner) {
-            Pair::copy_all(one.run.sheet().as_slice(), &mut pairs)?;
+            heads.add(one.run.flat())?;
         }
     }
-    Ok(pairs)
+    heads.merged()
 }
 
 /// What each split declares.

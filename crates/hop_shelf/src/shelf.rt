@@ -9,15 +9,15 @@ ghost use Rattle.hop_shelf.specs.Holds.{RunHolds};
 ghost use Rattle.hop_shelf.specs.Names.{rules_of, pairs_of, IsRun};
 ghost use Rattle.hop_shelf.specs.Sound.{owner_of};
 
-use crate::covering::{declared_all, pairs_of_all, runs_of};
+use crate::covering::{declared_all, merged_of, runs_of};
 use crate::journal::Journal;
 use crate::kept::{self, Kept, Owner};
 use crate::work::{MergeWork, Merged, pair_of_one_owner, put_merged};
-use hop_base::{Lens, Listed, Marks, NoMemory, Part, RunName, Sheet, Text};
+use hop_base::{Lens, Listed, Marks, NoMemory, Part, RunName, Text};
 use hop_cover::Coverage;
 use hop_cut::{Cut, Cuts};
 use hop_event::{Event, History, Via};
-use hop_laws::{Job, reduce_sheet};
+use hop_laws::{Job, reduce_flat};
 use hop_run::Parcel;
 use hop_script::Script;
 use std::alloc::Global;
@@ -415,8 +415,8 @@ impl<N: RunName> Shelf<N> {
     {
         let alloc = *self.kept.allocator();
         let declared = declared_all(alloc, &self.journal)?;
-        let pairs = pairs_of_all(alloc, declared.as_slice(), &self.kept)?;
-        let text = reduce_sheet(alloc, job, &Sheet::from_pairs(pairs))?;
+        let flat = merged_of(alloc, declared.as_slice(), &self.kept)?;
+        let text = reduce_flat(alloc, job, &flat)?;
         Ok(Text::from_vec(text))
     }
 }
