@@ -2,11 +2,11 @@
 use Rattle.std.proofs.Common.{◌≡◌, ℕ, ◌<◌, Bool, true, sym, subst, arith, Option, Some, None}
 use Rattle.hop_machine.specs.declared.words.Who.{Who}
 use Rattle.hop_machine.specs.declared.words.Who.TheVariants as whose
-use Rattle.hop_machine.specs.step.Steps.{Step, Send, Take, NextSplit, Draw, Commit, Revoke, AskWinner, AskRevoked, Join, TryHold, Hold, Record, GiveBack, SendCut, TakeCut, Risk, Found, Prog, Done, Then, End, OutEnd, InEnd, BoardEnd, Ends, Setup, Deeds, Steps, end_of}
+use Rattle.hop_machine.specs.step.Steps.{Step, Send, Take, NextSplit, Draw, Commit, Revoke, AskWinner, AskRevoked, Join, TryHold, Hold, Record, GiveBack, SendCut, TakeCut, Risk, Found, Prog, Done, Then, End, OutEnd, InEnd, CutOutEnd, CutInEnd, BoardEnd, KeepEnd, Ends, Setup, Deeds, Steps, end_of}
 use Rattle.hop_machine.specs.step.Programs.{Only}
 use Rattle.hop_machine.specs.step.Owners.{IsAt}
 use Rattle.hop_machine.specs.actors.ReducerTurns.{Reducer, Writer, lane_after}
-use Rattle.hop_machine.specs.home.Conditions.{Asks, IsHere, May, Safe, HasMapper, HasReducer, HasWriter}
+use Rattle.hop_machine.specs.home.Conditions.{Asks, IsHere, May, Safe, HasMapper, HasReducer, HasWriter, HasAll}
 use Rattle.hop_machine.proofs.home.Asked.{Asked, IsAmong}
 use Rattle.hop_machine.proofs.actors.OwnTurns.{ReducerSteps, WriterSteps}
 use Rattle.hop_machine.proofs.reducer.Looking.{lane_after_less}
@@ -38,10 +38,31 @@ mapper-here parts w d has (SendCut p c) at asks = cc
 mapper-here parts w d has (TakeCut p) at asks = cc
 mapper-here parts w d has Risk at asks = tt
 
-has_kept : (w : ℕ) (a b : Deeds) → b.setup ≡ a.setup → b.ends ≡ a.ends → HasMapper w a → HasMapper w b
+pub has_kept : (w : ℕ) (a b : Deeds) → b.setup ≡ a.setup → b.ends ≡ a.ends → HasMapper w a → HasMapper w b
 has_kept w a b s n h = record {
   outs = λ p l. subst (λ (k : Ends). k.has (OutEnd w p) ≡ true) (sym n) (h.outs p (subst (λ (k : Setup). p < k.reducers) s l));
   board = subst (λ (k : Ends). k.has (BoardEnd (whose.Mapper w)) ≡ true) (sym n) h.board;
+}
+
+pub reducer_kept : (p : ℕ) (a b : Deeds) → b.setup ≡ a.setup → b.ends ≡ a.ends → HasReducer p a → HasReducer p b
+reducer_kept p a b s n h = record {
+  ins = λ w l. subst (λ (k : Ends). k.has (InEnd w p) ≡ true) (sym n) (h.ins w (subst (λ (k : Setup). w < k.workers) s l));
+  cut_out = subst (λ (k : Ends). k.has (CutOutEnd p) ≡ true) (sym n) h.cut_out;
+  board = subst (λ (k : Ends). k.has (BoardEnd (whose.Reducer p)) ≡ true) (sym n) h.board;
+  keep = subst (λ (k : Ends). k.has (KeepEnd p) ≡ true) (sym n) h.keep;
+}
+
+pub writer_kept : (a b : Deeds) → b.setup ≡ a.setup → b.ends ≡ a.ends → HasWriter a → HasWriter b
+writer_kept a b s n h = record {
+  cut_ins = λ p l. subst (λ (k : Ends). k.has (CutInEnd p) ≡ true) (sym n) (h.cut_ins p (subst (λ (k : Setup). p < k.reducers) s l));
+  board = subst (λ (k : Ends). k.has (BoardEnd whose.Writer) ≡ true) (sym n) h.board;
+}
+
+pub all_kept : (a b : Deeds) → b.setup ≡ a.setup → b.ends ≡ a.ends → HasAll a → HasAll b
+all_kept a b s n h = record {
+  mapper = λ w l. has_kept w a b s n (h.mapper w (subst (λ (k : Setup). w < k.workers) s l));
+  reducer = λ p l. reducer_kept p a b s n (h.reducer p (subst (λ (k : Setup). p < k.reducers) s l));
+  writer = writer_kept a b s n h.writer;
 }
 
 pub mapper-safe : {A : Type 0} (parts : ℕ) (e : Bool) (w : ℕ) (k : Prog A) (a : Deeds) → HasMapper w a → Only (IsAt (whose.Mapper w)) k → Asked parts e k a → Safe parts e k a

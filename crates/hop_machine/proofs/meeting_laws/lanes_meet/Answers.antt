@@ -1,0 +1,11 @@
+use Rattle.hop_machine.proofs.settling.Meeting.{meets-learns, meets-met, meets-others}
+use Rattle.hop_machine.proofs.meeting_laws.lanes_meet.Goals as goal
+
+pub returns-clause-learns : goal.returns-clause-learns
+returns-clause-learns c = meets-learns
+
+pub returns-clause-met : goal.returns-clause-met
+returns-clause-met c = meets-met
+
+pub returns-clause-others : goal.returns-clause-others
+returns-clause-others c = meets-others

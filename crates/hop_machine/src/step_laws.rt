@@ -1,0 +1,31 @@
+//! Single steps.
+ghost use Rattle.std.specs.Prelude.{◌≡◌, ℕ, ◌<◌, Bool, true, [], ◌∷◌, ◌++◌, Some};
+ghost use Rattle.hop_machine.specs.declared.words.Who.{Who};
+ghost use Rattle.hop_machine.specs.declared.words.Message.{Message};
+ghost use Rattle.hop_machine.specs.step.Setup.{CutSaid, rules_of};
+ghost use Rattle.hop_machine.specs.step.CutLane.{AreCuts};
+ghost use Rattle.hop_machine.specs.step.Pushing.{IsWorkersList};
+ghost use Rattle.hop_machine.specs.step.Steps.{Step, Found, Take, TakeCut, AskWinner, AskRevoked, Deeds, Grows, Steps, IsKnown};
+ghost use Rattle.hop_machine.specs.home.Conditions.{HasMapper, HasReducer, HasWriter, HasAll};
+
+/// Over any ends, each step keeps what a run fixes and the ends that the value has; what ends are told only grows, and what they know of winners and revocations stays right.
+pub fn steps_keep()
+    ensures setup { (e : Bool) (s : Step) (o : Found s) (a b : Deeds) → Steps e s o a b → b.setup ≡ a.setup }
+    ensures ends { (e : Bool) (s : Step) (o : Found s) (a b : Deeds) → Steps e s o a b → b.ends ≡ a.ends }
+    ensures grows { (e : Bool) (s : Step) (o : Found s) (a b : Deeds) → Steps e s o a b → Grows a.told b.told }
+    ensures known { (e : Bool) (s : Step) (o : Found s) (a b : Deeds) → Steps e s o a b → (who : Who) → IsKnown a.setup (a.told.knows who) → IsKnown b.setup (b.told.knows who) }
+{}
+
+/// A message that is taken stands last in a worker's list, and a cut in a list that its cut lane allows.
+pub fn takes_are_allowed()
+    ensures message { (e : Bool) (w p : ℕ) (m : Message) (a b : Deeds) → Steps e (Take w p) (Some m) a b → IsWorkersList (rules_of a.setup) ((a.did.ins w p).taken ++ m ∷ []) }
+    ensures cut { (e : Bool) (p : ℕ) (c : CutSaid) (a b : Deeds) → Steps e (TakeCut p) (Some c) a b → AreCuts a.setup ((a.did.cut_ins p).taken ++ c ∷ []) }
+{}
+
+/// Where what a run fixes and the ends are the same, a value has an actor's ends as before.
+pub fn ends_stay()
+    ensures mapper { (w : ℕ) (a b : Deeds) → b.setup ≡ a.setup → b.ends ≡ a.ends → HasMapper w a → HasMapper w b }
+    ensures reducer { (p : ℕ) (a b : Deeds) → b.setup ≡ a.setup → b.ends ≡ a.ends → HasReducer p a → HasReducer p b }
+    ensures writer { (a b : Deeds) → b.setup ≡ a.setup → b.ends ≡ a.ends → HasWriter a → HasWriter b }
+    ensures all { (a b : Deeds) → b.setup ≡ a.setup → b.ends ≡ a.ends → HasAll a → HasAll b }
+{}
