@@ -41,7 +41,6 @@ abbrev pub small : List ℕ → ScriptLines → List ℕ → Setup
 small lens script marks = record {
   workers = 1;
   reducers = 1;
-  splits = length lens;
   attempts = 4;
   capacity = 2;
   script = script;
