@@ -1,8 +1,8 @@
 -- A mapper's turn is that of one that has ended, or an open one and then a look at its answer.
-use Rattle.std.proofs.Common.{◌≡◌, ◌⊎◌, Bool, true, false, refl, sym, ◌∙◌, subst, inl, inr, if◌then◌else◌}
+use Rattle.std.proofs.Common.{◌≡◌, ◌⊎◌, Bool, true, false, refl, sym, subst, inl, inr, if◌then◌else◌}
 use Rattle.hop_machine.specs.declared.words.Turn.{Turn}
 use Rattle.hop_machine.specs.declared.words.Turn.TheVariants.{Ended}
-use Rattle.hop_machine.specs.step.Steps.{Prog, Done, and_then, Deeds, Runs}
+use Rattle.hop_machine.specs.step.Steps.{Done, and_then, Deeds, Runs}
 use Rattle.hop_machine.specs.actors.MapperTurns.{Mapper, counted, open_turn, with_end, mapper_turn}
 use Rattle.hop_machine.proofs.step.Programs.{Runs-parted}
 

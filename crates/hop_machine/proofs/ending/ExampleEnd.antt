@@ -1,38 +1,23 @@
 -- What an end says can be so: the board of the example, and its end.
-use Rattle.std.proofs.Common.{◌≡◌, ℕ, zero, suc, ◌+◌, ◌<◌, Bool, true, false, ◌&&◌, ◌||◌, ◌==◌, cond, if◌then◌else◌, List, [], ◌∷◌, refl, sym, ap, ◌∙◌, subst, Some, None, ◌⊎◌, inl, inr, arith, not-suc-le-zero}
+use Rattle.std.proofs.Common.{◌≡◌, ℕ, zero, suc, ◌+◌, ◌<◌, Bool, true, false, ◌==◌, cond, [], ◌∷◌, refl, Some, ◌⊎◌, inl, inr, arith, not-suc-le-zero}
 use Rattle.std.proofs.lemmas.Bool.{eqb-true}
-use Rattle.hop_base.specs.Run.{no_lines}
-use Rattle.hop_base.specs.declared.part.Part.{Part}
 use Rattle.hop_event.specs.declared.event.Via.TheVariants.{Lane}
-use Rattle.hop_event.specs.declared.event.Event.{Event}
-use Rattle.hop_event.specs.declared.event.Event.TheVariants.{Arrive, Won, Finish}
-use Rattle.hop_event.specs.History.{winner}
-use Rattle.hop_event.specs.Legal.{Rules}
-use Rattle.hop_machine.specs.declared.words.Message.{Message}
-use Rattle.hop_machine.specs.declared.words.Message.TheVariants.{Range, Notice}
-use Rattle.hop_machine.specs.declared.words.Verdict.{Verdict}
-use Rattle.hop_machine.specs.declared.words.Verdict.TheVariants as verdicts
-use Rattle.hop_machine.specs.step.Steps.{Attempt, Seat, Words, Verdicts, Deeds, Setup, Among, Drew, has_bit}
-use Rattle.hop_machine.specs.actors.MapperTurns.{Mapper, Free}
-use Rattle.hop_machine.specs.home.Said.{attempt_of, seat_of, pushed, BeganBy, IsOver, SaidOfMapper, SaidOfReducer, Committed}
+use Rattle.hop_event.specs.declared.event.Event.TheVariants.{Arrive, Won}
+use Rattle.hop_machine.specs.step.Steps.{Among, Drew, has_bit}
+use Rattle.hop_machine.specs.home.Said.{seat_of, BeganBy, SaidOfReducer}
 use Rattle.hop_machine.specs.board.Board.{BoardRule, Gathered}
 use Rattle.hop_machine.specs.ending.Finishing.{HaveEnded, AreSettled, IsClosed}
-use Rattle.hop_machine.proofs.board.Draws.{same_attempts}
-use Rattle.hop_machine.proofs.ending.Deliveries.{both_true}
-use Rattle.hop_machine.proofs.ending.Winners.{true_or_false, same_some}
+use Rattle.hop_machine.proofs.ending.Winners.{true_or_false}
 use Rattle.hop_machine.proofs.board.Starts.{no_bit}
 use Rattle.hop_machine.proofs.ending.Settled.{run-settled}
-use Rattle.hop_machine.specs.step.Pushing.{IsWorkersList, came_from, is_named, is_noticed, pushed_to}
-use Rattle.hop_machine.specs.step.Steps.{IsKnown}
-use Rattle.hop_base.specs.Run.{fails_at}
-use Rattle.hop_machine.specs.home.Said.{held_for, pushes}
+use Rattle.hop_machine.specs.home.Said.{held_for}
 use Rattle.hop_machine.specs.board.Board.{MayHaveWon}
 use Rattle.std.specs.Prelude.{slice_index}
 use Rattle.hop_machine.specs.ending.Finishing.{greatest}
 use Rattle.hop_event.specs.Agreement.{history_at}
 use Rattle.hop_event.specs.History.{upto}
 use Rattle.hop_event.specs.Legal.{NoFinish}
-use Rattle.hop_machine.proofs.ending.Example.{rules, part, history, seat, words, d, mapper, is_zero, both_zero, drew_zero, began_zero, zero_same, once, home, first_or, won_so, reducer}
+use Rattle.hop_machine.proofs.ending.Example.{rules, part, history, seat, words, d, mapper, is_zero, both_zero, drew_zero, began_zero, zero_same, home, first_or, won_so, reducer}
 
 -- # The board
 

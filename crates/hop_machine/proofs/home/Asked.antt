@@ -2,7 +2,7 @@
 use Rattle.std.proofs.Common.{ℕ, Bool, sym, subst}
 use Rattle.hop_machine.specs.step.Steps.{Step, Found, Prog, Done, Then, Ends, Deeds, Steps, end_of}
 use Rattle.hop_machine.specs.step.Programs.{Only}
-use Rattle.hop_machine.specs.home.Conditions.{Asks, IsHere, May, Safe}
+use Rattle.hop_machine.specs.home.Conditions.{Asks, IsHere, Safe}
 
 -- each step has what it asks for, whatever was found before it
 abbrev pub Asked : {A : Type 0} → ℕ → Bool → Prog A → Deeds → Type 0

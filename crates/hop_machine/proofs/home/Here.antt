@@ -1,12 +1,12 @@
 -- Where a value has all ends of an actor, each step of the actor's programs is at an end that is there.
-use Rattle.std.proofs.Common.{◌≡◌, ℕ, ◌<◌, Bool, true, sym, subst, arith, Option, Some, None}
+use Rattle.std.proofs.Common.{◌≡◌, ℕ, ◌<◌, Bool, true, sym, subst}
 use Rattle.hop_machine.specs.declared.words.Who.{Who}
 use Rattle.hop_machine.specs.declared.words.Who.TheVariants as whose
-use Rattle.hop_machine.specs.step.Steps.{Step, Send, Take, NextSplit, Draw, Commit, Revoke, AskWinner, AskRevoked, Join, TryHold, Hold, Record, GiveBack, SendCut, TakeCut, Risk, Found, Prog, Done, Then, End, OutEnd, InEnd, CutOutEnd, CutInEnd, BoardEnd, KeepEnd, Ends, Setup, Deeds, Steps, end_of}
+use Rattle.hop_machine.specs.step.Steps.{Step, Send, Take, NextSplit, Draw, Commit, Revoke, AskWinner, AskRevoked, Join, TryHold, Hold, Record, GiveBack, SendCut, TakeCut, Risk, Prog, Done, Then, OutEnd, InEnd, CutOutEnd, CutInEnd, BoardEnd, KeepEnd, Ends, Setup, Deeds, end_of}
 use Rattle.hop_machine.specs.step.Programs.{Only}
 use Rattle.hop_machine.specs.step.Owners.{IsAt}
-use Rattle.hop_machine.specs.actors.ReducerTurns.{Reducer, Writer, lane_after}
-use Rattle.hop_machine.specs.home.Conditions.{Asks, IsHere, May, Safe, HasMapper, HasReducer, HasWriter, HasAll}
+use Rattle.hop_machine.specs.actors.ReducerTurns.{Reducer, Writer}
+use Rattle.hop_machine.specs.home.Conditions.{Asks, IsHere, Safe, HasMapper, HasReducer, HasWriter, HasAll}
 use Rattle.hop_machine.proofs.home.Asked.{Asked, IsAmong}
 use Rattle.hop_machine.proofs.actors.OwnTurns.{ReducerSteps, WriterSteps}
 use Rattle.hop_machine.proofs.reducer.Looking.{lane_after_less}

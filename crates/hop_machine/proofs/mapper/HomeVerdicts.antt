@@ -1,15 +1,13 @@
 -- The end of a mapper whose running attempt fails, wins or loses.
-use Rattle.std.proofs.Common.{◌≡◌, ◌⊎◌, ℕ, ◌<◌, Bool, true, false, List, [], ◌∷◌, ◌++◌, refl, sym, ap, ◌∙◌, subst, arith, inl, inr}
+use Rattle.std.proofs.Common.{◌≡◌, ◌⊎◌, ℕ, ◌<◌, Bool, true, false, refl, sym, ap, ◌∙◌, subst, arith, inl, inr}
 use Rattle.std.proofs.lemmas.Bool.{cases_order}
-use Rattle.hop_event.specs.History.{same_attempt}
 use Rattle.hop_event.specs.Legal.{Rules}
-use Rattle.hop_machine.specs.declared.words.Verdict.{Verdict}
 use Rattle.hop_machine.specs.declared.words.Verdict.TheVariants.{Won, Lost}
-use Rattle.hop_machine.specs.step.Steps.{Seat, Attempt, Verdicts, Knows, Among, Drew}
-use Rattle.hop_machine.specs.actors.MapperTurns.{Running, Work, Runs, Retries, Free}
-use Rattle.hop_machine.specs.home.Said.{attempt_of, Committed, RevokedIt, IsSpent, IsToFail, KnowsOwn}
-use Rattle.hop_machine.specs.home.MapperHome.{Began, KnowsWinner, HasFailed, DrewAlone, IsFollowed, SeatWell, BoardWell}
-use Rattle.hop_machine.proofs.mapper.HomeLists.{same_is, among_old, among_last, among_parts}
+use Rattle.hop_machine.specs.step.Steps.{Seat, Verdicts, Among, Drew}
+use Rattle.hop_machine.specs.actors.MapperTurns.{Running, Runs, Retries, Free}
+use Rattle.hop_machine.specs.home.Said.{attempt_of, Committed, RevokedIt, IsSpent, IsToFail}
+use Rattle.hop_machine.specs.home.MapperHome.{KnowsWinner, HasFailed, IsFollowed, BoardWell}
+use Rattle.hop_machine.proofs.mapper.HomeLists.{among_last}
 use Rattle.hop_machine.proofs.mapper.HomeBoard.{with_revoked, with_committed, revoked_more, revoked_new, answered_parts, revoked_parts, committed_more, committed_parts, Ends, seat_ends, followed_on, alone_on}
 
 module _ (rules : Rules) (backup dry : Bool) (r : Running) (s : Seat) (k : Verdicts) (h : BoardWell rules backup dry (Runs r) s k) where

@@ -1,17 +1,16 @@
 -- The cuts that are due on the empty histories are sent: a machine as it is made comes to the first state of its play.
-use Rattle.std.proofs.Common.{◌≡◌, ◌⊎◌, ℕ, zero, suc, ◌+◌, ◌<◌, ◌≤◌, ◌==◌, Bool, true, false, List, [], ◌∷◌, ◌++◌, Option, Some, None, refl, sym, ap, ◌∙◌, subst, inl, inr, map, length, nat_lt, slice_set, if◌then◌else◌, append_assoc, append-nil, length-append, arith}
+use Rattle.std.proofs.Common.{◌≡◌, ◌⊎◌, ℕ, zero, suc, ◌+◌, ◌<◌, ◌≤◌, ◌==◌, Bool, true, false, List, [], ◌∷◌, ◌++◌, Some, None, refl, sym, ap, ◌∙◌, subst, inl, inr, map, length, nat_lt, slice_set, if◌then◌else◌, append_assoc, append-nil, length-append, arith}
 use Rattle.std.specs.List.{slice_get, range_with_len}
-use Rattle.std.specs.Option.{option_map}
 use Rattle.std.proofs.lemmas.Bool.{eqb-true, eqb-false, lt-ltb, cases_lt}
 use Rattle.std.proofs.lemmas.List.{length-map}
 use Rattle.std.proofs.lemmas.List.FromFn.{length-map-range_with_len}
 use Rattle.hop_event.specs.declared.event.Event.{Event}
 use Rattle.hop_machine.specs.step.Steps.{Setup, CutSaid, Shared, Value, Prog, Done, Then, and_then, SendCut, does, becomes, shown, at1}
 use Rattle.hop_machine.specs.actors.ReducerTurns.{Reducer, cut_after, marks_due, each_cut, send_cuts, gives_back, still_due, send_due}
-use Rattle.hop_machine.specs.home.Starts.{new_mapper, new_reducer}
+use Rattle.hop_machine.specs.home.Starts.{new_reducer}
 use Rattle.hop_machine.specs.home.ReducerHome.{IsSetup}
 use Rattle.hop_machine.specs.board.Board.{no_words}
-use Rattle.hop_machine.specs.play.Play.{Order, Place, Opening, Listed, Actors, Machine, World, machine, at_place, by_reducer, at_reducer, same_reducer, unless_halted, when, due_at, sizes_of, after_step, next, Follows, Reaches, Went}
+use Rattle.hop_machine.specs.play.Play.{Order, Place, Opening, Listed, Actors, Machine, World, machine, at_place, by_reducer, at_reducer, same_reducer, unless_halted, when, after_step, next, Follows, Reaches, Went}
 use Rattle.hop_machine.specs.play.FirstState.{new_actors, first_cuts, for_reducers, nothing_under_lock, new_shared, first_shared, first_state, Plays, IsNew}
 use Rattle.hop_machine.proofs.step.Told.{at1-here}
 use Rattle.hop_machine.proofs.reducer.CutLaws.{cuts_few, cuts-first}
@@ -167,12 +166,12 @@ module _ (s : Setup) (backup : Bool) (list : List Order) (set : IsSetup s) where
       let below : nat_lt p (p + 1) ≡ true = lt_true p (p + 1) (omega arith) in
       let cuts : at1 (cuts_at p) p (cuts_at p p ++ map (cut_after s (histories_at p p).events) (histories_at p p).due) ≡ cuts_at (p + 1)
       = written (cuts_at p) (cuts_at (p + 1)) p (cuts_at p p ++ map (cut_after s (histories_at p p).events) (histories_at p p).due)
-        ((λ i. was i ++ map (cut_after s (now i).events) (now i).due) ∙ ap (λ t. if t then first_cuts s else []) (sym below))
-        (λ q n. ap (λ t. if t then first_cuts s else []) (sym (one_more q p n))) in
+      ((λ i. was i ++ map (cut_after s (now i).events) (now i).due) ∙ ap (λ t. if t then first_cuts s else []) (sym below))
+      (λ q n. ap (λ t. if t then first_cuts s else []) (sym (one_more q p n))) in
       let histories : at1 (histories_at p) p (record (histories_at p p) { due = [] }) ≡ histories_at (p + 1)
       = written (histories_at p) (histories_at (p + 1)) p (record (histories_at p p) { due = [] })
-        ((λ i. record (now i) { due = [] }) ∙ ap (λ t. if t then nothing_under_lock else for_reducers s (record { events = []; due = marks_due s [] }) nothing_under_lock p) (sym below))
-        (λ q n. ap (λ t. if t then nothing_under_lock else for_reducers s (record { events = []; due = marks_due s [] }) nothing_under_lock q) (sym (one_more q p n))) in
+      ((λ i. record (now i) { due = [] }) ∙ ap (λ t. if t then nothing_under_lock else for_reducers s (record { events = []; due = marks_due s [] }) nothing_under_lock p) (sym below))
+      (λ q n. ap (λ t. if t then nothing_under_lock else for_reducers s (record { events = []; due = marks_due s [] }) nothing_under_lock q) (sym (one_more q p n))) in
       λ i. record { setup = s; lanes = λ w q. []; cuts = cuts i; words = no_words; histories = histories i }
 
   few : (p : ℕ) → p < s.reducers → length (cuts_at p p) + length (histories_at p p).due ≤ 16
@@ -236,5 +235,5 @@ went-plays backup list a b set new w on over =
     let c = comes_first s backup list set in
     let P : Machine → Type 0 = λ m. Follows (Opening 0 list, m) r.states (shown_at b) in
     let g = follows_rest (Opening 0 list, record { actors = new_actors s backup; shared = new_shared s }) (Listed list, first_state s backup) (shown_at b) c.states r.states c.follow
-        (subst P (λ i. record { actors = new.actors i; shared = new.shows i }) r.follow) over in
+    (subst P (λ i. record { actors = new.actors i; shared = new.shows i }) r.follow) over in
     record { states = g.0; follow = g.1; over = over }

@@ -3,8 +3,7 @@ use Rattle.std.proofs.Common.{◌≡◌, ℕ, ◌<◌, Bool, false, List, sym, s
 use Rattle.hop_base.specs.declared.part.Part.{Part}
 use Rattle.hop_event.specs.declared.event.Event.{Event}
 use Rattle.hop_machine.specs.declared.words.Turn.{Turn}
-use Rattle.hop_machine.specs.step.Steps.{Prog, Then, TakeCut, Risk, Done, Setup, CutSaid, Deeds}
-use Rattle.hop_machine.specs.step.Programs.{Only}
+use Rattle.hop_machine.specs.step.Steps.{Prog, Then, Risk, Done, Setup, CutSaid, Deeds}
 use Rattle.hop_machine.specs.actors.ReducerTurns.{Reducer, Writer, reducer_turn, reads_off, take_pull, send_due, restart_if_due, finish, must_restart, writes, wrote, works, lane_after, writer_turn}
 use Rattle.hop_machine.specs.home.Said.{history_of}
 use Rattle.hop_machine.specs.home.ReducerHome.{IsSetup, MayPull, ReducerAtHome, NoneDue, WriterAtHome}

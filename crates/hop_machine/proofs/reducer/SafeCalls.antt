@@ -6,8 +6,8 @@ use Rattle.hop_event.specs.declared.event.Event.{Event}
 use Rattle.hop_event.specs.declared.event.Event.TheVariants as events
 use Rattle.hop_event.specs.declared.event.Via.TheVariants as via
 use Rattle.hop_event.specs.Legal.{Follows}
-use Rattle.hop_machine.specs.step.Setup.{Setup, CutSaid, rules_of}
-use Rattle.hop_machine.specs.step.Steps.{Hold, Risk, Value, Prog, and_then, Deeds, Steps}
+use Rattle.hop_machine.specs.step.Setup.{Setup, rules_of}
+use Rattle.hop_machine.specs.step.Steps.{Hold, Risk, Value, and_then, Deeds, Steps}
 use Rattle.hop_machine.specs.actors.ReducerTurns.{Reducer, cut_after, marks_due, must_restart, records, gives_back, with_room, restarts, lags, send_cuts, still_due, reads_off, take_pull, send_due, restart_if_due, finish}
 use Rattle.hop_machine.specs.home.Said.{history_of}
 use Rattle.hop_machine.specs.home.ReducerHome.{IsSetup, CutsSent, MayPull, ReducerAtHome}

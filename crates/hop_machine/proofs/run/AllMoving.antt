@@ -1,29 +1,18 @@
 -- All actors stay at home where one of them moved.
-use Rattle.std.proofs.Common.{◌≡◌, ◌≢◌, ◌⊎◌, ℕ, ◌<◌, Bool, true, false, List, [], ◌∷◌, length, refl, sym, ap, ◌∙◌, subst, cond, inl, inr, Option, Some, None, slice_set}
+use Rattle.std.proofs.Common.{◌≡◌, ◌≢◌, ◌⊎◌, ℕ, ◌<◌, Bool, List, [], length, sym, ap, ◌∙◌, subst, inl, inr, Some, slice_set}
 use Rattle.std.specs.List.{slice_get}
 use Rattle.std.proofs.lemmas.Bool.{cases_eq}
-use Rattle.hop_event.specs.declared.event.Via.{Via}
-use Rattle.hop_event.specs.declared.event.Via.TheVariants.{Lane, Late, Pull}
-use Rattle.hop_base.specs.declared.part.Part.{Part}
-use Rattle.hop_event.specs.declared.event.Event.{Event}
-use Rattle.hop_event.specs.declared.event.Event.TheVariants.{Arrive, Ignore, Won, Revoked, Restart, Finish}
 use Rattle.hop_event.specs.Legal.{NoFinish}
 use Rattle.hop_machine.specs.declared.words.Who.{Who}
 use Rattle.hop_machine.specs.declared.words.Who.TheVariants as whose
-use Rattle.hop_machine.specs.step.Steps.{Send, Take, NextSplit, Draw, Commit, Revoke, AskWinner, AskRevoked, Join, TryHold, Hold, Record, GiveBack, SendCut, TakeCut, Risk, Prog, Deeds, Did, Seat, Kept, Setup, Runs, Drew, at_actor, same_actor, next_split_of, rules_of}
-use Rattle.hop_machine.specs.step.Programs.{Only, EachKeeps}
-use Rattle.hop_machine.specs.step.Owners.{IsAt, Acted}
+use Rattle.hop_machine.specs.step.Steps.{Deeds, Kept, Setup}
 use Rattle.hop_machine.specs.actors.MapperTurns.{Mapper}
 use Rattle.hop_machine.specs.actors.ReducerTurns.{Reducer, Writer}
-use Rattle.hop_machine.specs.home.Said.{seat_of, history_of, SomeBegan, PullsBegun, BringsBegun}
+use Rattle.hop_machine.specs.home.Said.{history_of}
 use Rattle.hop_machine.specs.home.ReducerHome.{IsSetup, NoneDue, WriterAtHome}
 use Rattle.hop_machine.specs.play.Play.{Actors, Learns}
 use Rattle.hop_machine.specs.run.AllHome.{MapperIsHome, ReducerIsHome, AllHome, Ready}
-use Rattle.hop_machine.proofs.step.Programs.{Runs-keeps}
-use Rattle.hop_machine.proofs.step.Owners.{same-actor, only_both, Runs-acted, nobody-acted, only_any}
-use Rattle.hop_machine.proofs.step.Told.{grows_self, grows_both}
-use Rattle.hop_machine.proofs.board.Amongs.{among-earlier}
-use Rattle.hop_machine.proofs.home.OthersKeep.{keeps_mapper, keeps_reducer, keeps_writer}
+use Rattle.hop_machine.proofs.home.OthersKeep.{keeps_writer}
 use Rattle.hop_machine.proofs.settling.Passes.{get_here, get_else, length_set}
 use Rattle.hop_machine.proofs.run.Moving.{Moved, learns-moved, setup_same, kept_same, mapper_still, reducer_still}
 

@@ -1,32 +1,22 @@
 -- Any actor's turn leaves all actors at home.
-use Rattle.std.proofs.Common.{◌≡◌, ◌⊎◌, ℕ, zero, suc, ◌<◌, Bool, true, false, List, [], ◌∷◌, ◌++◌, length, refl, sym, ap, ◌∙◌, subst, inl, inr, Option, Some, None, slice_set, arith}
+use Rattle.std.proofs.Common.{◌≡◌, ℕ, zero, suc, ◌<◌, Bool, true, false, List, [], ◌∷◌, length, refl, sym, ap, ◌∙◌, subst, inl, inr, Some, None, arith}
 use Rattle.std.specs.List.{slice_get}
-use Rattle.hop_event.specs.declared.event.Via.{Via}
-use Rattle.hop_event.specs.declared.event.Via.TheVariants.{Lane, Late, Pull}
-use Rattle.hop_base.specs.declared.part.Part.{Part}
-use Rattle.hop_event.specs.declared.event.Event.{Event}
-use Rattle.hop_event.specs.declared.event.Event.TheVariants.{Arrive, Ignore, Won, Revoked, Restart, Finish}
-use Rattle.hop_event.specs.Legal.{Rules, NoFinish, is_finish}
 use Rattle.hop_machine.specs.declared.words.Who.{Who}
 use Rattle.hop_machine.specs.declared.words.Who.TheVariants as whose
 use Rattle.hop_machine.specs.declared.words.Turn.{Turn}
 use Rattle.hop_machine.specs.declared.words.Turn.TheVariants.{Idle, Ended, Stopped}
-use Rattle.hop_machine.specs.step.Steps.{Prog, Done, Deeds, Setup, Runs, rules_of}
-use Rattle.hop_machine.specs.step.Pushing.{has_restart}
+use Rattle.hop_machine.specs.step.Steps.{Done, Deeds, Runs}
 use Rattle.hop_machine.specs.actors.MapperTurns.{Mapper, mapper_turn}
-use Rattle.hop_machine.specs.actors.ReducerTurns.{Reducer, reducer_turn, writer_turn, must_restart}
-use Rattle.hop_machine.specs.home.Said.{history_of, PullsBegun, BringsBegun, HasEnded}
+use Rattle.hop_machine.specs.actors.ReducerTurns.{Reducer, reducer_turn, writer_turn}
+use Rattle.hop_machine.specs.home.Said.{HasEnded}
 use Rattle.hop_machine.specs.home.MapperHome.{has_failed}
-use Rattle.hop_machine.specs.home.ReducerHome.{IsSetup, NoneDue, IsPlain, AllPlain, TurnLeft}
-use Rattle.hop_machine.specs.play.Play.{Actors, at_place, by_mapper, by_reducer, turn_of}
-use Rattle.hop_machine.specs.run.AllHome.{MapperIsHome, ReducerIsHome, AllLate, Ready, NoRestartDue}
+use Rattle.hop_machine.specs.play.Play.{Actors, turn_of}
+use Rattle.hop_machine.specs.run.AllHome.{AllLate, Ready, NoRestartDue}
 use Rattle.hop_machine.proofs.step.Programs.{Runs-parted}
-use Rattle.hop_machine.proofs.actors.OwnTurns.{own_mapper, own_reducer, own_writer}
-use Rattle.hop_machine.proofs.mapper.AtHome.{turn_at_home, turn_number, turn_ended}
-use Rattle.hop_machine.proofs.reducer.Plain.{reducer_turn-left}
+use Rattle.hop_machine.proofs.actors.OwnTurns.{own_writer}
 use Rattle.hop_machine.proofs.reducer.WriterHome.{writer_turn-home}
 use Rattle.hop_machine.proofs.settling.Passes.{get_here, get_else, length_set, there}
-use Rattle.hop_machine.proofs.run.Moving.{Moved, Runs-moved, kept_same, pulls_kept}
+use Rattle.hop_machine.proofs.run.Moving.{Runs-moved, kept_same}
 use Rattle.hop_machine.proofs.run.AllMoving.{reducer_is, some_is, set_each, ready_by_mapper, ready_by_reducer, ready_by_writer}
 use Rattle.hop_machine.proofs.run.Turns.{DidMapper, DidReducer, by_mapper-run, by_reducer-run, not_stopped, reducer_turned, mapper_turned}
 

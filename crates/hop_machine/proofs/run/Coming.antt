@@ -1,35 +1,21 @@
 -- What a step's program may come to, the flags of a pass, and how settling begins.
-use Rattle.std.proofs.Common.{◌≡◌, ◌⊎◌, ℕ, zero, suc, ◌+◌, ◌<◌, ◌&&◌, Bool, true, false, List, [], ◌∷◌, length, map, refl, sym, ap, ◌∙◌, subst, inl, inr, cond, nat_lt, Option, Some, None, slice_set, slice_index_or, arith}
+use Rattle.std.proofs.Common.{◌≡◌, ◌⊎◌, ℕ, zero, suc, ◌<◌, ◌&&◌, Bool, true, false, List, [], ◌∷◌, length, map, refl, sym, ap, ◌∙◌, subst, inl, inr, Some, slice_set, slice_index_or, arith}
 use Rattle.std.specs.List.{slice_get}
-use Rattle.std.proofs.lemmas.Bool.{cases_eq, ltb-true, ltb-false}
 use Rattle.std.proofs.lemmas.List.{length-map}
-use Rattle.hop_event.specs.declared.event.Event.{Event}
-use Rattle.hop_event.specs.Legal.{NoFinish}
 use Rattle.hop_machine.specs.declared.words.Who.{Who}
-use Rattle.hop_machine.specs.declared.words.Who.TheVariants as whose
 use Rattle.hop_machine.specs.declared.words.Turn.{Turn}
 use Rattle.hop_machine.specs.declared.words.Turn.TheVariants.{Worked, Idle, Ended, Spent, Stopped}
-use Rattle.hop_machine.specs.step.Steps.{Prog, Done, Deeds, Setup, Kept, Runs, rules_of}
+use Rattle.hop_machine.specs.step.Steps.{Prog, Done, Deeds, Runs}
 use Rattle.hop_machine.specs.actors.MapperTurns.{Mapper}
-use Rattle.hop_machine.specs.actors.ReducerTurns.{Reducer, still_due, send_due, must_restart, finish}
-use Rattle.hop_machine.specs.home.Said.{history_of, PullsBegun, HasEnded}
+use Rattle.hop_machine.specs.actors.ReducerTurns.{Reducer}
 use Rattle.hop_machine.specs.home.MapperHome.{has_failed}
-use Rattle.hop_machine.specs.home.ReducerHome.{NoneDue, ReducerLeft, due_of}
-use Rattle.hop_machine.specs.play.Play.{Actors, Order, TurnOf, CatchUp, Place, Opening, Listed, CatchingUp, Passing, Mapping, Draining, Emptying, Pulling, Writing, Over, NoneLeft, Halted, Sizes, World, Next, Learns, Went, when, turn_of, turn_to, at_reducer, by_reducer, same_reducer, unless_halted, unless_spent, once_idle, after_pull, has_ended, is_late, is_ended, all_true, due_at, catch_up, kept_rows, pull_split}
-use Rattle.hop_machine.specs.run.AllHome.{ReducerIsHome, Opens, Ready, Settles, NoRestartDue, Empties, IsAtPlace}
+use Rattle.hop_machine.specs.play.Play.{Actors, Place, when, turn_of, turn_to, at_reducer, by_reducer, unless_halted, unless_spent, once_idle, has_ended, is_late, is_ended, all_true}
+use Rattle.hop_machine.specs.run.AllHome.{ReducerIsHome, Ready, Settles, IsAtPlace}
 use Rattle.hop_machine.proofs.step.Programs.{Runs-parted}
-use Rattle.hop_machine.proofs.actors.OwnTurns.{own_due}
 use Rattle.hop_machine.proofs.reducer.Starts.{marked_home}
-use Rattle.hop_machine.proofs.reducer.Calls.{send_due-left}
-use Rattle.hop_machine.proofs.play.Plays.{went_keeps}
 use Rattle.hop_machine.proofs.settling.Passes.{there}
-use Rattle.hop_machine.proofs.run.Moving.{Moved, Runs-moved, learns-moved, pulls_kept, kept_same}
 use Rattle.hop_machine.proofs.run.AllMoving.{set_each, reducer_is, locks_one, locks_same, home_by_reducer, home_told, ready_by_reducer, ready_told}
-use Rattle.hop_machine.proofs.run.Turns.{DidReducer, by_reducer-run, ReducerAfter}
-use Rattle.hop_machine.proofs.run.AnyTurn.{ReducerDid, MapperDid, none_there, in_range, mapper_turn-did, reducer_turn-did, turn_ready}
-use Rattle.hop_machine.proofs.run.PullCalls.{ReducerNow}
-use Rattle.hop_machine.proofs.run.Catching.{catch-after, rows-kept}
-use Rattle.hop_machine.specs.step.Setup.{splits_of}
+use Rattle.hop_machine.proofs.run.Turns.{DidReducer, by_reducer-run}
 
 -- # What a step's program may come to
 

@@ -1,48 +1,22 @@
 -- A run that came to its end has what settling promises.
-use Rattle.std.proofs.Common.{◌≡◌, ℕ, ◌+◌, ◌≤◌, ◌<◌, Bool, true, false, List, [], length, refl, sym, ap, ◌∙◌, subst, inl, inr, nat_lt, Option, Some, None, slice_set, slice_index, arith}
+use Rattle.std.proofs.Common.{◌≡◌, ℕ, ◌≤◌, ◌<◌, Bool, false, List, length, sym, subst, Some, slice_index, arith}
 use Rattle.std.specs.List.{slice_get}
-use Rattle.std.proofs.lemmas.Bool.{ltb-true, ltb-false}
-use Rattle.std.proofs.Math.Nat.{zero-mod}
+use Rattle.std.proofs.lemmas.Bool.{ltb-false}
 use Rattle.hop_event.specs.declared.event.Event.{Event}
-use Rattle.hop_event.specs.History.{winner, upto}
-use Rattle.hop_event.specs.Legal.{Rules, NoFinish}
+use Rattle.hop_event.specs.Legal.{Rules}
 use Rattle.hop_event.specs.Failing.{tries}
-use Rattle.hop_machine.specs.declared.words.Who.{Who}
-use Rattle.hop_machine.specs.declared.words.Who.TheVariants as whose
-use Rattle.hop_machine.specs.declared.words.Turn.{Turn}
-use Rattle.hop_machine.specs.declared.words.Turn.TheVariants.{Worked, Idle, Ended, Spent, Stopped}
-use Rattle.hop_machine.specs.declared.words.Message.{Message}
-use Rattle.hop_machine.specs.step.Steps.{Prog, Done, Deeds, Did, Setup, Kept, Sent, Taken, Verdicts, Runs, rules_of}
+use Rattle.hop_machine.specs.step.Steps.{rules_of}
 use Rattle.hop_machine.specs.actors.MapperTurns.{Mapper}
-use Rattle.hop_machine.specs.actors.ReducerTurns.{Reducer, must_restart, finish, writer_turn}
-use Rattle.hop_machine.specs.home.Said.{seat_of, history_of, DrewInTurn}
-use Rattle.hop_machine.specs.home.ReducerHome.{NoneDue}
-use Rattle.hop_machine.specs.board.Board.{Gathered}
-use Rattle.hop_machine.specs.play.Play.{Actors, Place, Opening, Listed, CatchingUp, Passing, Mapping, Draining, Emptying, Pulling, Writing, Over, NoneLeft, Halted, Sizes, World, Next, Learns, Went, when, turn_of, turn_to, at_reducer, same_reducer, unless_halted, once_idle, after_pull, pull_split, due_at}
+use Rattle.hop_machine.specs.home.Said.{seat_of, DrewInTurn}
+use Rattle.hop_machine.specs.play.Play.{Place, Emptying, Over, World, Went}
 use Rattle.hop_machine.specs.ending.Finishing.{AreBegun, AreHistories, IsClosed, AreSettled}
-use Rattle.hop_machine.specs.run.AllHome.{ReducerIsHome, AllHome, AllNoneDue, AllEnded, NoRestartDue, AllEmptied, WorkIsDone, Pulls, Settled, IsPulling, RanToItsEnd, mapper_of}
-use Rattle.hop_machine.proofs.step.Programs.{Runs-parted}
-use Rattle.hop_machine.proofs.actors.LockCalls.{lock-only_own, lock-only_calm, lock-only_none, of_split, of_finish}
-use Rattle.hop_machine.proofs.actors.OwnTurns.{own_writer}
+use Rattle.hop_machine.specs.run.AllHome.{Pulls, Settled, RanToItsEnd, mapper_of}
 use Rattle.hop_machine.proofs.mapper.AtHome.{drew_in_turn}
-use Rattle.hop_machine.proofs.reducer.WriterHome.{writer_turn-home}
-use Rattle.hop_machine.proofs.board.Calm.{Gathered-runs, writer-calm}
-use Rattle.hop_machine.proofs.play.Plays.{went_keeps, went_both}
-use Rattle.hop_machine.proofs.settling.Takes.{Runs-no_take}
-use Rattle.hop_machine.proofs.settling.Passes.{there}
-use Rattle.hop_machine.proofs.ending.PullSplits.{pull_split-there, is-closed}
+use Rattle.hop_machine.proofs.play.Plays.{went_both}
 use Rattle.hop_machine.proofs.ending.Settled.{run-settled, run-tries}
-use Rattle.hop_machine.proofs.run.Moving.{Moved, Runs-moved, learns-moved}
-use Rattle.hop_machine.proofs.run.AllMoving.{no_mapper, writer_no_reducer, locks_one, locks_same, home_by_reducer, home_by_writer, home_told}
-use Rattle.hop_machine.proofs.run.Turns.{DidReducer, ReducerAfter}
-use Rattle.hop_machine.proofs.run.AnyTurn.{none_there}
-use Rattle.hop_machine.proofs.run.PullCalls.{ReducerCalm, PullLeft, finish-after}
-use Rattle.hop_machine.proofs.run.Pulling.{is_there, have_ended, may_lack, split-after}
+use Rattle.hop_machine.proofs.run.Pulling.{is_there, have_ended}
 use Rattle.hop_machine.proofs.run.Places.{went_at_home}
-use Rattle.hop_machine.proofs.run.Coming.{done-came, turn_to-came, at_reducer-came, when-came}
 use Rattle.hop_machine.proofs.run.Lanes.{emptied_lanes}
-use Rattle.hop_machine.specs.step.Setup.{splits_of}
-use Rattle.hop_machine.proofs.run.Undisturbed.{Undisturbed, still-ends, told-undisturbed, split-undisturbed, finish-undisturbed}
 use Rattle.hop_machine.proofs.run.Ending.{went_pulling}
 
 -- # The whole run

@@ -1,8 +1,7 @@
 -- A meet tells the ends of one lane of each other, and moves nothing else.
-use Rattle.std.proofs.Common.{◌≡◌, ◌⊎◌, ℕ, ◌&&◌, ◌==◌, Bool, true, false, List, refl, sym, ap, ◌∙◌, subst, inl, inr, if◌then◌else◌}
+use Rattle.std.proofs.Common.{◌≡◌, ℕ, ◌&&◌, ◌==◌, Bool, true, false, refl, sym, ap, subst, if◌then◌else◌}
 use Rattle.std.proofs.lemmas.Bool.{eqb-true, eq-eqb}
-use Rattle.hop_machine.specs.step.Steps.{CutSaid, Deeds, Told, Did, Setup, Ends, Begins, shown, at1, at2}
-use Rattle.hop_machine.specs.declared.words.Message.{Message}
+use Rattle.hop_machine.specs.step.Steps.{Deeds, shown, at1, at2}
 use Rattle.hop_machine.specs.home.Said.{Met}
 use Rattle.hop_machine.specs.play.Play.{Learns}
 use Rattle.hop_machine.specs.settling.Meeting.{Meets, CutMeets, CutMet}

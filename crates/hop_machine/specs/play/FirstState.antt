@@ -1,5 +1,5 @@
 -- The first state of a play, and the play itself.
-use Rattle.std.specs.Prelude.{◌≡◌, ℕ, Bool, List, [], Option, None, map, nat_lt, if◌then◌else◌}
+use Rattle.std.specs.Prelude.{◌≡◌, ℕ, Bool, List, [], None, map, nat_lt, if◌then◌else◌}
 use Rattle.std.specs.List.{range_with_len}
 use Rattle.hop_machine.specs.step.Steps.{Setup, CutSaid, Shared, Value, rules_of}
 use Rattle.hop_machine.specs.actors.ReducerTurns.{cut_after, marks_due}

@@ -1,5 +1,5 @@
 -- Small runs whose plays are worked out by hand: what their traces have to be.
-use Rattle.std.specs.Prelude.{◌≡◌, ℕ, zero, suc, Bool, true, false, List, [], ◌∷◌, Option, Some, None, map, length, reverse}
+use Rattle.std.specs.Prelude.{◌≡◌, ℕ, zero, suc, Bool, true, false, List, [], ◌∷◌, Option, Some, map, length, reverse}
 use Rattle.std.specs.List.{range_with_len}
 use Rattle.hop_base.specs.Run.{ScriptLines, no_lines}
 use Rattle.hop_base.specs.declared.part.Part.{Part}
