@@ -5,7 +5,7 @@ ghost use Rattle.hop_machine.specs.declared.words.Message.{Message};
 ghost use Rattle.hop_machine.specs.step.Setup.{CutSaid, rules_of};
 ghost use Rattle.hop_machine.specs.step.CutLane.{AreCuts};
 ghost use Rattle.hop_machine.specs.step.Pushing.{IsWorkersList};
-ghost use Rattle.hop_machine.specs.step.Steps.{Step, Found, Take, TakeCut, AskWinner, AskRevoked, Deeds, Grows, Steps, IsKnown};
+ghost use Rattle.hop_machine.specs.step.Steps.{Step, Found, Take, TakeCut, Risk, Deeds, Grows, Steps, IsKnown};
 ghost use Rattle.hop_machine.specs.home.Conditions.{HasMapper, HasReducer, HasWriter, HasAll};
 
 /// Over any ends, each step keeps what a run fixes and the ends that the value has; what ends are told only grows, and what they know of winners and revocations stays right.
@@ -14,6 +14,11 @@ pub fn steps_keep()
     ensures ends { (e : Bool) (s : Step) (o : Found s) (a b : Deeds) → Steps e s o a b → b.ends ≡ a.ends }
     ensures grows { (e : Bool) (s : Step) (o : Found s) (a b : Deeds) → Steps e s o a b → Grows a.told b.told }
     ensures known { (e : Bool) (s : Step) (o : Found s) (a b : Deeds) → Steps e s o a b → (who : Who) → IsKnown a.setup (a.told.knows who) → IsKnown b.setup (b.told.knows who) }
+{}
+
+/// A risk that goes well or badly moves nothing.
+pub fn risks_move_nothing()
+    ensures { (e ok : Bool) (a : Deeds) → Steps e Risk ok a a }
 {}
 
 /// A message that is taken stands last in a worker's list, and a cut in a list that its cut lane allows.

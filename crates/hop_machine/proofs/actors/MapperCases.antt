@@ -26,3 +26,11 @@ turn_cases e m a y b r = of m.ended refl r
     of false o h =
         let t = Runs-parted e (open_turn m) (λ x. Done (with_end x)) a b y h in
         inr (record { x = t.answer; runs = subst (λ (d : Deeds). Runs e (open_turn m) a t.answer d) (sym t.later.1) t.first; is = t.later.0 })
+
+-- one that has ended does nothing more
+pub turn_over : (e : Bool) (m : Mapper) (a : Deeds) (y : Mapper × Turn) (b : Deeds) → m.ended ≡ true → Runs e (mapper_turn m) a y b → (y.0 ≡ counted m) × (y.1 ≡ Ended) × (b ≡ a)
+turn_over e m a y b over r = of m.ended over r
+  where
+    of : (t : Bool) → t ≡ true → Runs e (if t then Done (counted m, Ended) else and_then (open_turn m) (λ x. Done (with_end x))) a y b → (y.0 ≡ counted m) × (y.1 ≡ Ended) × (b ≡ a)
+    of true o h = ((λ i. (h.0 i).0), (λ i. (h.0 i).1), h.1)
+    of false o h = cc
