@@ -24,6 +24,7 @@ first_cuts s = map (cut_after s []) (marks_due s [])
 abbrev pub for_reducers : {A : Type 0} → Setup → A → A → ℕ → A
 for_reducers s x other p = if nat_lt p s.reducers then x else other
 
+-- an empty history with no cut due
 abbrev pub nothing_under_lock : Value
 nothing_under_lock = record { events = []; due = [] }
 

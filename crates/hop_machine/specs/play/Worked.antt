@@ -55,6 +55,7 @@ abbrev pub times : ℕ → Who → List Order → List Order
 times zero who later = later
 times (suc n) who later = TurnOf who ∷ times n who later
 
+-- a range of an attempt
 abbrev pub range : ℕ → ℕ → ℕ → ℕ → Part
 range i a from to = record { split = i; attempt = a; from = from; to = to }
 
@@ -62,9 +63,11 @@ range i a from to = record { split = i; attempt = a; from = from; to = to }
 abbrev pub snapshot : ℕ → ℕ → List (Option Declared) → Writing
 snapshot mark progress declared = record { reducer = 0; cut = record { mark = mark; progress = progress; declared = declared }; put = true }
 
+-- so many records of an attempt that is not committed
 abbrev pub tentative : ℕ → ℕ → Option Declared
 tentative a n = Some (record { attempt = a; records = n; committed = false })
 
+-- so many records of an attempt that is committed
 abbrev pub committed : ℕ → ℕ → Option Declared
 committed a n = Some (record { attempt = a; records = n; committed = true })
 
@@ -74,6 +77,7 @@ committed a n = Some (record { attempt = a; records = n; committed = true })
 abbrev pub half_a_file : SmallRun
 half_a_file = record { setup = small (2 ∷ 2 ∷ []) no_lines (5000 ∷ []); backup = false; turns = times 3 (Mapper 0) (times 2 (Reducer 0) []) }
 
+-- Its trace.
 abbrev pub half_a_file_traced : List Event
 half_a_file_traced =
     Arrive (range 0 0 0 1) (Lane 0)
@@ -89,14 +93,17 @@ half_a_file_traced =
 abbrev pub failing_once : ScriptLines
 failing_once = record no_lines { fails = record { split = 0; attempt = 0; at = 1 } ∷ [] }
 
+-- Turns in which the failure and the retry are seen before settling.
 abbrev pub failing_turns : List Order
 failing_turns =
     times 2 (Mapper 0) (times 1 (Reducer 0) (times 1 (Mapper 0) (times 1 (Reducer 0) (times 3 (Mapper 0) (times 2 (Reducer 0)
     (times 1 (Mapper 0) (times 1 (Reducer 0) (times 3 (Mapper 0) (times 2 (Reducer 0) (times 1 (Mapper 0) (times 1 (Reducer 0) [])))))))))))
 
+-- The run of it.
 abbrev pub a_failed_attempt : SmallRun
 a_failed_attempt = record { setup = small (2 ∷ 2 ∷ []) failing_once (2500 ∷ []); backup = false; turns = failing_turns }
 
+-- Its trace.
 abbrev pub a_failed_attempt_traced : List Event
 a_failed_attempt_traced =
     Arrive (range 0 0 0 1) (Lane 0)
@@ -122,6 +129,7 @@ a_restart = record {
   turns = times 3 (Mapper 0) (times 2 (Reducer 0) (times 1 (Mapper 0) (times 2 (Reducer 0) [])));
 }
 
+-- Its trace.
 abbrev pub a_restart_traced : List Event
 a_restart_traced =
     Arrive (range 0 0 0 1) (Lane 0)
@@ -137,6 +145,7 @@ a_restart_traced =
 abbrev pub a_late_failure : SmallRun
 a_late_failure = record { setup = small (2 ∷ []) (record no_lines { fails = record { split = 0; attempt = 0; at = 2 } ∷ [] }) []; backup = false; turns = [] }
 
+-- Its trace.
 abbrev pub a_late_failure_traced : List Event
 a_late_failure_traced =
     Arrive (range 0 0 0 1) (Late 0)
@@ -152,6 +161,7 @@ a_late_failure_traced =
 abbrev pub a_full_lane : SmallRun
 a_full_lane = record { setup = record (small (4 ∷ []) no_lines []) { capacity = 1 }; backup = false; turns = times 6 (Mapper 0) [] }
 
+-- Its trace.
 abbrev pub a_full_lane_traced : List Event
 a_full_lane_traced = Arrive (range 0 0 0 1) (Late 0) ∷ Arrive (range 0 0 1 2) (Late 0) ∷ Arrive (range 0 0 2 4) (Late 0) ∷ Won 0 0 ∷ Finish ∷ []
 
@@ -163,6 +173,7 @@ a_backup = record {
   turns = times 1 (Mapper 0) (times 1 (Mapper 1) (times 1 (Mapper 0) (times 1 (Mapper 1) (times 1 (Mapper 0) (times 1 (Mapper 1) (times 4 (Reducer 0) []))))));
 }
 
+-- Its trace.
 abbrev pub a_backup_traced : List Event
 a_backup_traced = Arrive (range 0 0 0 2) (Lane 0) ∷ Arrive (range 0 1 0 2) (Lane 1) ∷ Won 0 0 ∷ Revoked 0 1 ∷ Finish ∷ []
 
@@ -170,6 +181,7 @@ a_backup_traced = Arrive (range 0 0 0 2) (Lane 0) ∷ Arrive (range 0 1 0 2) (La
 abbrev pub failing_at_once : ScriptLines
 failing_at_once = record no_lines { fails = record { split = 0; attempt = 0; at = 0 } ∷ [] }
 
+-- The run of it with one attempt a split.
 abbrev pub a_doomed_split : SmallRun
 a_doomed_split = record { setup = record (small (2 ∷ 2 ∷ []) failing_at_once []) { attempts = 1 }; backup = false; turns = [] }
 
@@ -177,6 +189,7 @@ a_doomed_split = record { setup = record (small (2 ∷ 2 ∷ []) failing_at_once
 abbrev pub a_spared_split : SmallRun
 a_spared_split = record { setup = record (small (2 ∷ 2 ∷ []) failing_at_once []) { attempts = 2 }; backup = false; turns = [] }
 
+-- Its trace.
 abbrev pub a_spared_split_traced : List Event
 a_spared_split_traced =
     Revoked 0 0
