@@ -37,7 +37,6 @@ module _ (w p : ℕ) (a b : Deeds) (m : Meets w p a b) where
   pub meets-learns : (e : Bool) → Learns e a b
   meets-learns e = record {
     setup = ap (λ (d : Deeds). d.setup) m.changes;
-    ends = ap (λ (d : Deeds). d.ends) m.changes;
     did = ap (λ (d : Deeds). d.did) m.changes;
     grows = m.grows;
     calm = ap (λ (d : Deeds). d.told.knows) m.changes;
@@ -62,7 +61,6 @@ module _ (p : ℕ) (a b : Deeds) (m : CutMeets p a b) where
   pub cut_meets-learns : (e : Bool) → Learns e a b
   cut_meets-learns e = record {
     setup = ap (λ (d : Deeds). d.setup) m.changes;
-    ends = ap (λ (d : Deeds). d.ends) m.changes;
     did = ap (λ (d : Deeds). d.did) m.changes;
     grows = m.grows;
     calm = ap (λ (d : Deeds). d.told.knows) m.changes;

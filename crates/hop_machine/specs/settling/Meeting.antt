@@ -1,5 +1,8 @@
--- What the coordinator tells the ends of lanes of each other.
-use Rattle.std.specs.Prelude.{◌≡◌, ℕ, List, ◌++◌}
+-- What the coordinator tells ends of each other: of lanes, and of the board.
+use Rattle.std.specs.Prelude.{◌≡◌, ℕ, Bool, true, false, not, ◌&&◌, List, ◌++◌}
+use Rattle.hop_machine.specs.declared.words.Who.TheVariants as whose
+use Rattle.hop_machine.specs.board.Board.{Gathered}
+use Rattle.hop_machine.specs.step.Steps.{End, OutEnd, InEnd, CutOutEnd, CutInEnd, BoardEnd, KeepEnd, Ends, rules_of}
 use Rattle.hop_machine.specs.step.Steps.{CutSaid, Deeds, Grows, Begins, at1, at2}
 
 -- The two ends of the lane from mapper w to reducer p were each told of the other's whole list, and no end did anything.
@@ -19,3 +22,26 @@ pub record CutMet (d : Deeds) (p : ℕ) : Type 0 where
   pub taken : d.told.cut_taken p ≡ (d.did.cut_ins p).taken
   pub sent : d.told.cut_sent p ≡ (d.did.cut_outs p).sent
   pub begins : (more : List CutSaid) × ((d.did.cut_outs p).sent ≡ (d.did.cut_ins p).taken ++ more)
+
+-- # The ends of the board
+
+-- whether it is a mapper's end of the board
+abbrev pub is_mappers_board : End → Bool
+is_mappers_board (BoardEnd (whose.Mapper w)) = true
+is_mappers_board (BoardEnd (whose.Reducer p)) = false
+is_mappers_board (BoardEnd (whose.Merger j)) = false
+is_mappers_board (BoardEnd whose.Writer) = false
+is_mappers_board (OutEnd w p) = false
+is_mappers_board (InEnd w p) = false
+is_mappers_board (CutOutEnd p) = false
+is_mappers_board (CutInEnd p) = false
+is_mappers_board (KeepEnd p) = false
+
+-- all ends but those of the mappers at the board
+abbrev pub without_mappers : Ends → Ends
+without_mappers ends = record ends { has = λ end. ends.has end && not (is_mappers_board end) }
+
+-- The ends of the board were gathered: what is known of all of them together is so, and no mapper has one any more. No end did anything.
+pub record Gathers (a b : Deeds) : Type 0 where
+  pub changes : b ≡ record a { ends = without_mappers a.ends }
+  pub gathered : Gathered (rules_of a.setup) a
