@@ -6,7 +6,7 @@ use Rattle.std.proofs.lemmas.Bool.{cases_lt, ltb-false, le-ltb, le-leb, leb-true
 use Rattle.std.proofs.lemmas.List.{take_at, drop_at, take-append-drop, length-append, length-take, get_or-drop, get_or-take, get_or_past}
 use Rattle.std.proofs.lemmas.Nat.{be_bytes_4, be_bytes_8, from_be_bytes-to_be_bytes_4, from_be_bytes-to_be_bytes_8}
 use Rattle.hop_base.proofs.Truth.{both_true}
-use Rattle.hop_spill.specs.Spelling.{word, long, counted}
+use Rattle.hop_base.specs.Fields.{word, long, counted}
 use Rattle.hop_spill.specs.Reading.{◌>>=◌, number_at, word_within, blob_at}
 
 -- each is a byte

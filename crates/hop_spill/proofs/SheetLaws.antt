@@ -4,7 +4,8 @@ use Rattle.std.specs.Int.{w32}
 use Rattle.std.specs.List.{flat_map}
 use Rattle.std.proofs.lemmas.List.Concat.{flat_map-cons}
 use Rattle.hop_base.specs.declared.value.Pair.{Pair}
-use Rattle.hop_spill.specs.Spelling.{word, pair_text, sheet_text, IsSheetOf, AreSheetsFrom}
+use Rattle.hop_base.specs.Fields.{word, pair_text}
+use Rattle.hop_spill.specs.Spelling.{sheet_text, IsSheetOf, AreSheetsFrom}
 use Rattle.hop_spill.specs.Reading.{◌>>=◌, number_at, pairs_at, sheet_at, sheets_at}
 use Rattle.hop_spill.proofs.FieldLaws.{IsBytes, bind_ok, ok_is, Takes, Takes-nothing, Takes-then, word_takes, word_again}
 use Rattle.hop_spill.proofs.PairLaws.{pairs_take, pairs_again, sheet_from_follow, follow_from_sheet}

@@ -7,7 +7,8 @@ use Rattle.std.proofs.lemmas.List.{append-nil, nil_from_length}
 use Rattle.hop_base.specs.declared.value.Pair.{Pair}
 use Rattle.hop_spill.specs.declared.spill.Spill.{Spill}
 use Rattle.hop_spill.specs.declared.decoding.Head.{Head}
-use Rattle.hop_spill.specs.Spelling.{magic, word, sheet_text, head_text, spill_text, IsSpill, AreSheetsFrom}
+use Rattle.hop_base.specs.Fields.{word}
+use Rattle.hop_spill.specs.Spelling.{magic, sheet_text, head_text, spill_text, IsSpill, AreSheetsFrom}
 use Rattle.hop_spill.specs.Reading.{◌>>=◌, word_within, head_at, sheets_at, front_at, spill_at}
 use Rattle.hop_spill.proofs.FieldLaws.{IsBytes, bind_ok, passed_ok, ok_is, Takes, Takes-then, word_within_takes, word_within_again}
 use Rattle.hop_spill.proofs.SheetLaws.{sheets_take, sheets_again}

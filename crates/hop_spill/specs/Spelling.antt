@@ -1,30 +1,16 @@
 -- What a spill is, and its one text: the fields in order, numbers with their greatest byte first.
 use Rattle.std.specs.Prelude.{◌≡◌, ℕ, ◌+◌, ◌<◌, ◌≤◌, ◌^◌, List, [], ◌∷◌, ◌++◌, length, All}
-use Rattle.std.specs.Int.{w32, w64, to_be_bytes}
 use Rattle.std.specs.List.{flat_map}
 use Rattle.hop_base.specs.declared.value.Pair.{Pair}
+use Rattle.hop_base.specs.Fields.{word, pair_text}
 use Rattle.hop_base.specs.Order.{IsSheet}
 use Rattle.hop_laws.specs.Partition.{partition_of}
 use Rattle.hop_spill.specs.declared.spill.Spill.{Spill}
+use Rattle.hop_spill.specs.declared.spill.FlatSpill.{FlatSpill}
 
 -- the letters HSP1, as a number
 abbrev pub magic : ℕ
 magic = 0x48535031
-
--- a number of four bytes
-unfoldable pub word : ℕ → List ℕ
-word n = to_be_bytes w32 n
-
--- a number of eight bytes
-unfoldable pub long : ℕ → List ℕ
-long n = to_be_bytes w64 n
-
--- bytes, behind their number
-unfoldable pub counted : List ℕ → List ℕ
-counted bytes = word (length bytes) ++ bytes
-
-unfoldable pub pair_text : Pair → List ℕ
-pair_text pair = counted pair.key ++ (long pair.val.n ++ counted pair.val.s)
 
 -- pairs, behind their number
 unfoldable pub sheet_text : List Pair → List ℕ
@@ -59,3 +45,7 @@ pub record IsSpill (spill : Spill) : Type 0 where
   pub some_reducer : 1 ≤ length spill.sheets
   pub few_reducers : length spill.sheets ≤ 8
   pub sheets : AreSheetsFrom 0 (length spill.sheets) spill.sheets
+
+-- the same spill, its sheets not as bytes
+abbrev pub spill_of : FlatSpill → Spill
+spill_of flat = record { split = flat.split; attempt = flat.attempt; from = flat.from; to = flat.to; sheets = flat.sheets }

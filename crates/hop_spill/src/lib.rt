@@ -10,5 +10,5 @@ pub mod spill;
 mod stop;
 
 pub use decoding::decode;
-pub use encoding::encode;
-pub use spill::{Spill, SpillFault};
+pub use encoding::{encode, encode_flat};
+pub use spill::{FlatSpill, Spill, SpillFault};
