@@ -83,9 +83,10 @@ fn text_in_order<J: Job>(
 // The pairs of a run: each key and its number, as a digit.
 fn shown(alloc: Global, run: &Run) -> Result<Vec<u8>, AllocError> {
     let mut text = Vec::new(alloc);
-    for pair in run.sheet().as_slice() {
-        text.extend_from_slice(pair.key.as_slice())?;
-        text.push(b'0' + pair.val.n.min(9) as u8)?;
+    for k in 0..run.len() {
+        let pair = run.pair(k);
+        text.extend_from_slice(pair.key)?;
+        text.push(b'0' + pair.n.min(9) as u8)?;
     }
     Ok(text)
 }
@@ -113,7 +114,14 @@ fn part(from: u32, to: u32) -> Part
 fn made(alloc: Global, part: Part) -> Result<Run, NoMemory>
     requires { part.from ≤ part.to }
 {
-    let Ok(book) = two_records(alloc) else {
+    made_of(alloc, b"b a\nb\n", part)
+}
+
+// The run of a part of these records.
+fn made_of(alloc: Global, input: &[u8], part: Part) -> Result<Run, NoMemory>
+    requires { part.from ≤ part.to }
+{
+    let Ok(book) = Book::read(alloc, input, 2) else {
         return Err(NoMemory);
     };
     if part.split < book.splits() && part.to <= book.len(part.split) {
@@ -159,6 +167,15 @@ fn makes_combines_and_reduces(rt: HostRuntime) -> Result<(), Fail> {
 }
 
 #[test]
+fn bytes_are_the_fields_of_the_pairs(rt: HostRuntime) -> Result<(), Fail> {
+    let run = made_of(rt.alloc(), b"a\n", part(0, 1))?;
+    assert_eq!(rt; run.bytes(), b"\0\0\0\x01a\0\0\0\0\0\0\0\x01\0\0\0\0".as_slice());
+    assert_eq!(rt; run.copy()?.bytes(), run.bytes());
+    assert_eq!(rt; run.flat().to_sheet()?.as_slice().len(), 1);
+    Ok(())
+}
+
+#[test]
 fn combines_and_reduces(rt: HostRuntime) -> Result<(), Fail> {
     let run = made(rt.alloc(), part(0, 2))?;
     let run = Run::combine(rt.alloc(), &Wc, &run)?;
@@ -187,7 +204,8 @@ fn merges_many_runs(rt: HostRuntime) -> Result<(), Fail> {
 #[test]
 fn merges_no_runs(rt: HostRuntime) -> Result<(), Fail> {
     let none = merge_all(rt.alloc(), &[])?;
-    assert_eq!(rt; none.sheet().as_slice().len(), 0);
+    assert_eq!(rt; none.len(), 0);
+    assert_eq!(rt; none.to_sheet()?.as_slice().len(), 0);
     assert_eq!(rt; none.parts().len(), 0);
     Ok(())
 }

@@ -103,7 +103,7 @@ fn parcel(alloc: Global, book: &Book, attempt: u8, from: u32, to: u32) -> Result
         to,
     };
     let run = Run::make(alloc, &Wc, book, part, 0, 1)?;
-    let _known = run.sheet();
+    let _known = run.flat();
     Ok(Parcel { part, run })
 }
 
@@ -203,7 +203,7 @@ fn restart(shelf: &mut Shelf<Sample>) -> Result<&'static [u8], Fail>
 // The merge of two lent runs.
 fn merged(alloc: Global, work: MergeWork<Sample>) -> Result<Merged<Sample>, Fail> {
     let run = Run::merge(alloc, work.a(), work.b())?;
-    let _known = run.sheet();
+    let _known = run.flat();
     Ok(work.merged(run))
 }
 
