@@ -1,5 +1,5 @@
 //! Byte strings of bounded length: keys, and the texts of values.
-ghost use Rattle.std.specs.Prelude.{◌≡◌, ℕ, ◌<◌, ◌≤◌, ◌↔◌, length, IfOk};
+ghost use Rattle.std.specs.Prelude.{◌≡◌, ℕ, ◌<◌, ◌≤◌, ◌↔◌, [], length, IfOk, OnOk, OnErr};
 
 use crate::limits::MAX_BLOB;
 use crate::memory::NoMemory;
@@ -59,6 +59,18 @@ impl Blob {
     {
         let bytes = Vec::from_slice(alloc, bytes)?;
         Ok(Blob { bytes })
+    }
+
+    /// Becomes a blob of these bytes, which are known to be at most 131,071, in the memory that it has where
+    /// that is enough. After `NoMemory` it is empty.
+    pub fn set(&mut self, bytes: &[u8]) -> Result<(), NoMemory>
+        requires { length bytes.now ≤ 131071 }
+        ensures ok { OnOk result (self.new ≡ bytes.now) }
+        ensures err { OnErr result (self.new ≡ []) }
+    {
+        self.bytes.clear();
+        self.bytes.extend_from_slice(bytes)?;
+        Ok(())
     }
 
     /// Its bytes.

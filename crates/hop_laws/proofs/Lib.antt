@@ -1,6 +1,9 @@
 pub mod Combined
 pub mod Emitted
+pub mod EntryLaws
+pub mod GatheredLaws
 pub mod GroupLaws
+pub mod HeadLaws
 pub mod Keys
 pub mod Lines
 pub mod StandsLaws
