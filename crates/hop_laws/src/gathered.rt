@@ -5,7 +5,7 @@ ghost use Rattle.hop_base.specs.Sorted.{ord};
 ghost use Rattle.hop_laws.specs.Groups.{red};
 ghost use Rattle.hop_laws.specs.Stands.{combined_pairs, pair_of};
 
-use crate::entry::{Entry, append, sort};
+use crate::entry::{Entry, append, is_same_key, sort};
 use crate::groups_in::{combine_entries, give_entries, reduce_entries};
 use crate::job::Job;
 use crate::sink::PairSink;
@@ -57,6 +57,21 @@ impl Gathered {
     {
         self.entries.clear();
         self.arena.clear();
+    }
+
+    /// Whether at most a quarter of the pairs have the key of the pair before them. Where they are in order,
+    /// combine would leave nearly all of them then.
+    pub fn are_mostly_apart(&self) -> bool {
+        let mut left = self.entries.len() / 4;
+        for k in 1..self.entries.len() {
+            if is_same_key(&self.arena, &self.entries[k - 1], &self.entries[k]) {
+                if left == 0 {
+                    return false;
+                }
+                left -= 1;
+            }
+        }
+        true
     }
 
     /// Puts the pairs in order, equal ones as often as they occur. It takes no memory.
