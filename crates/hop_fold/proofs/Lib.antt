@@ -1,2 +1,2 @@
-pub mod GatheringLaws
 pub mod LineLaws
+pub mod Standing

@@ -8,19 +8,15 @@ use Rattle.hop_laws.specs.Blocking.{emitted}
 use Rattle.hop_laws.specs.Partition.{of_partition}
 use Rattle.hop_laws.specs.Stands.{StandsFor}
 
--- each list has the pairs of its partition more
-pub record Scattered (pairs : List Pair) (old new : List (List Pair)) : Type 0 where
-  pub same : length new ≡ length old
-  pub told : (p : ℕ) → p < length old → slice_index_or new p [] ≡ slice_index_or old p [] ++ of_partition p (length old) pairs
+-- the new pairs stand for whatever the old ones stand for, with some more
+abbrev pub StandsWith : (List ℕ → List Val → List ℕ) → List Pair → List Pair → List Pair → Type 0
+StandsWith reduce old more new = (ps : List Pair) → All IsValidPair ps → StandsFor reduce old ps → StandsFor reduce new (ps ++ more)
 
--- the new pairs stand for whatever the old ones stand for
-abbrev pub KeepsStanding : (List ℕ → List Val → List ℕ) → List Pair → List Pair → Type 0
-KeepsStanding reduce old new = (ps : List Pair) → StandsFor reduce old ps → StandsFor reduce new ps
-
--- so for each partition
-pub record AllKeepStanding (reduce : List ℕ → List Val → List ℕ) (old new : List (List Pair)) : Type 0 where
+-- each list stands for the pairs of its partition more
+pub record TakesIn (reduce : List ℕ → List Val → List ℕ) (old : List (List Pair)) (pairs : List Pair) (new : List (List Pair)) : Type 0 where
   pub same : length new ≡ length old
-  pub stands : (p : ℕ) → p < length old → KeepsStanding reduce (slice_index_or old p []) (slice_index_or new p [])
+  pub valid : All IsValidPair pairs
+  pub stands : (p : ℕ) → p < length old → StandsWith reduce (slice_index_or old p []) (of_partition p (length old) pairs) (slice_index_or new p [])
 
 -- each list stands for what map emits for the records in its partition
 pub record Gathers (meaning : Meaning) (records : List (List ℕ)) (lists : List (List Pair)) : Type 0 where

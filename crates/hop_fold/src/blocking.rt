@@ -4,8 +4,8 @@ ghost use Rattle.std.specs.List.{concat};
 ghost use Rattle.hop_laws.specs.Blocking.{blocking_texts};
 ghost use Rattle.hop_records.specs.Records.{records_of};
 
-use crate::gathered::{empty_lists, gather, gather_lines, reduce_all};
-use crate::lines::joined;
+use crate::lines::{first_line, joined};
+use crate::lists::{Lists, reduce_all};
 use hop_base::{NoMemory, Texts};
 use hop_laws::Job;
 use hop_records::Book;
@@ -13,18 +13,18 @@ use std::alloc::Global;
 
 /// The blocking job's text of each of `r` partitions, 1 to 8, over the records of a book: what the
 /// programming model of MapReduce (OSDI 2004) gives, with the keys of a partition in ascending order.
-/// It keeps about as many pairs as combine leaves of them; some 32,768 in all partitions together are
+/// It keeps about as many pairs as combine leaves of them; some 16,384 in all partitions together are
 /// kept before any are combined.
 pub fn block<J: Job>(alloc: Global, job: &J, book: &Book, r: u8) -> Result<Texts, NoMemory>
     requires some { 1 ≤ r }
     requires few { r ≤ 8 }
     ensures { IfOk result (λ texts. texts ≡ blocking_texts (J.meaning job.now) book.now.records r) }
 {
-    let mut lists = empty_lists(alloc, r)?;
+    let mut lists = Lists::new(alloc, job, r)?;
     for k in 0..book.records() {
-        gather(alloc, job, &mut lists, book.record(k))?;
+        job.emit(alloc, book.record(k), &mut lists)?;
     }
-    let texts = reduce_all(alloc, job, lists)?;
+    let texts = reduce_all(alloc, job, lists.lists)?;
     Ok(texts)
 }
 
@@ -37,8 +37,13 @@ pub fn block_lines<J: Job>(alloc: Global, job: &J, texts: &Texts, r: u8) -> Resu
     ensures { IfOk result (λ out. out ≡ blocking_texts (J.meaning job.now) (records_of (concat texts.now)) r) }
 {
     let bytes = joined(alloc, texts)?;
-    let mut lists = empty_lists(alloc, r)?;
-    gather_lines(alloc, job, &mut lists, &bytes)?;
-    let out = reduce_all(alloc, job, lists)?;
+    let mut lists = Lists::new(alloc, job, r)?;
+    let mut rest = bytes.as_slice();
+    while !rest.is_empty() {
+        let (line, later) = first_line(rest);
+        job.emit(alloc, line, &mut lists)?;
+        rest = later;
+    }
+    let out = reduce_all(alloc, job, lists.lists)?;
     Ok(out)
 }

@@ -4,5 +4,6 @@
 pub mod blocking;
 mod gathered;
 mod lines;
+mod lists;
 
 pub use blocking::{block, block_lines};

@@ -4,7 +4,7 @@ use crate::sum::Sum;
 use crate::top::Top;
 use crate::wc::Wc;
 use hop_base::{Blob, Listed, NoMemory, Pair, Val};
-use hop_laws::Job;
+use hop_laws::{Job, PairSink};
 use std::alloc::Global;
 
 /// A job that is known by name.
@@ -42,6 +42,15 @@ impl Job for Known {
             Known::Sum(job) => job.map(alloc, line),
             Known::Max(job) => job.map(alloc, line),
             Known::Top(job) => job.map(alloc, line),
+        }
+    }
+
+    fn emit<S: PairSink>(&self, alloc: Global, line: &[u8], sink: &mut S) -> Result<(), NoMemory> {
+        match self {
+            Known::Wc(job) => job.emit(alloc, line, sink),
+            Known::Sum(job) => job.emit(alloc, line, sink),
+            Known::Max(job) => job.emit(alloc, line, sink),
+            Known::Top(job) => job.emit(alloc, line, sink),
         }
     }
 

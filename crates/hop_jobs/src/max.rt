@@ -3,9 +3,9 @@ ghost use Rattle.std.specs.Prelude.{◌≡◌};
 ghost use Rattle.hop_jobs.specs.Max.{greatest as greatest_of};
 
 use crate::numbers::{append_line, one_number};
-use crate::record::numbered;
+use crate::record::{emit_numbered, numbered};
 use hop_base::{Blob, NoMemory, Pair, Val};
-use hop_laws::Job;
+use hop_laws::{Job, PairSink};
 use std::alloc::Global;
 
 /// Finds the greatest number of each key, over records like those of `Sum`. Its name is `max`.
@@ -28,8 +28,13 @@ impl Job for Max {
         numbered(alloc, line)
     }
 
-    fn combine(&self, alloc: Global, _key: &Blob, vals: Vec<Val>) -> Result<Vec<Val>, NoMemory> {
-        one_number(alloc, greatest(&vals))
+    fn emit<S: PairSink>(&self, _alloc: Global, line: &[u8], sink: &mut S) -> Result<(), NoMemory> {
+        emit_numbered(line, sink)
+    }
+
+    fn combine(&self, _alloc: Global, _key: &Blob, vals: Vec<Val>) -> Result<Vec<Val>, NoMemory> {
+        let n = greatest(&vals);
+        one_number(vals, n)
     }
 
     fn reduce(

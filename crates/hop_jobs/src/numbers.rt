@@ -1,5 +1,5 @@
 //! Values that are numbers alone, and lines that end in a number.
-ghost use Rattle.std.specs.Prelude.{◌≡◌, ◌++◌, ◌∷◌, [], IfOk, OnOk, OnErr};
+ghost use Rattle.std.specs.Prelude.{◌≡◌, ◌<◌, ◌++◌, ◌∷◌, [], length, IfOk, OnOk, OnErr};
 ghost use Rattle.hop_jobs.specs.Adding.{saturating_sum, number as number_value, number_line};
 
 use hop_base::{Blob, NoMemory, Val};
@@ -25,12 +25,15 @@ pub(crate) fn number(alloc: Global, n: u64) -> Result<Val, NoMemory>
     Ok(Val { n, s })
 }
 
-// A list of one value of a number alone.
-pub(crate) fn one_number(alloc: Global, n: u64) -> Result<Vec<Val>, NoMemory>
-    ensures { IfOk result (λ vals. vals.items ≡ number_value n ∷ []) }
+// A list of one value of a number alone, in the memory of the first of these values.
+pub(crate) fn one_number(mut vals: Vec<Val>, n: u64) -> Result<Vec<Val>, NoMemory>
+    requires { 0 < length vals.items }
+    ensures { IfOk result (λ one. one.items ≡ number_value n ∷ []) }
 {
-    let mut vals = Vec::new(alloc);
-    vals.push(number(alloc, n)?)?;
+    vals.truncate(1);
+    let first = &mut vals[0];
+    first.n = n;
+    first.s.set(b"")?;
     Ok(vals)
 }
 

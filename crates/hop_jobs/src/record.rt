@@ -1,10 +1,11 @@
 //! Records that are read at their last tab: a key, and a number in decimal digits.
-ghost use Rattle.std.specs.Prelude.{◌≡◌, ◌<◌, ◌+◌, take, drop, length, IfOk, IfSome};
+ghost use Rattle.std.specs.Prelude.{◌≡◌, ◌<◌, ◌+◌, take, drop, length, IfOk, IfSome, OnOk};
 ghost use Rattle.std.specs.Option.{option_map};
 ghost use Rattle.hop_jobs.specs.Numbered.{number_of, at_last_tab, numbered_emits};
 
 use crate::numbers::number;
 use hop_base::{Blob, NoMemory, Pair};
+use hop_laws::PairSink;
 use memchr::memrchr;
 use std::alloc::Global;
 
@@ -22,6 +23,19 @@ pub(crate) fn numbered(alloc: Global, line: &[u8]) -> Result<Vec<Pair>, NoMemory
         }
     }
     Ok(pairs)
+}
+
+// Hands the key with the number to a sink, or nothing where the record isn't of this form.
+pub(crate) fn emit_numbered<S: PairSink>(line: &[u8], sink: &mut S) -> Result<(), NoMemory>
+    requires { length line.now < 131072 }
+    ensures { OnOk result (S.takes sink.old (numbered_emits line.now) sink.new) }
+{
+    if let Some(tab) = last_tab(line) {
+        if let Some(n) = read_number(&line[tab + 1..]) {
+            sink.take(&line[..tab], n, b"")?;
+        }
+    }
+    Ok(())
 }
 
 // The place of the last tab.

@@ -1,8 +1,8 @@
 //! The job that adds up numbers.
 use crate::numbers::{append_line, one_number, sum};
-use crate::record::numbered;
+use crate::record::{emit_numbered, numbered};
 use hop_base::{Blob, NoMemory, Pair, Val};
-use hop_laws::Job;
+use hop_laws::{Job, PairSink};
 use std::alloc::Global;
 
 /// Adds up the numbers of each key, up to 2^64 - 1. A record is read at its last tab: before it stands
@@ -27,8 +27,13 @@ impl Job for Sum {
         numbered(alloc, line)
     }
 
-    fn combine(&self, alloc: Global, _key: &Blob, vals: Vec<Val>) -> Result<Vec<Val>, NoMemory> {
-        one_number(alloc, sum(&vals))
+    fn emit<S: PairSink>(&self, _alloc: Global, line: &[u8], sink: &mut S) -> Result<(), NoMemory> {
+        emit_numbered(line, sink)
+    }
+
+    fn combine(&self, _alloc: Global, _key: &Blob, vals: Vec<Val>) -> Result<Vec<Val>, NoMemory> {
+        let n = sum(&vals);
+        one_number(vals, n)
     }
 
     fn reduce(

@@ -6,7 +6,7 @@ ghost use Rattle.hop_jobs.specs.Top.{best_cmp, best_of, value_line};
 use crate::numbers::append_line;
 use crate::record::{last_tab, read_number};
 use hop_base::{Blob, NoMemory, Pair, Val};
-use hop_laws::Job;
+use hop_laws::{Job, PairSink};
 use itoa::Buffer;
 use std::alloc::Global;
 use std::cmp::Ordering;
@@ -58,6 +58,15 @@ impl Job for Top {
             }
         }
         Ok(pairs)
+    }
+
+    fn emit<S: PairSink>(&self, _alloc: Global, line: &[u8], sink: &mut S) -> Result<(), NoMemory> {
+        if let Some(tab) = last_tab(line) {
+            if let Some(n) = read_number(&line[tab + 1..]) {
+                sink.take(b"", n, &line[..tab])?;
+            }
+        }
+        Ok(())
     }
 
     fn combine(&self, _alloc: Global, _key: &Blob, vals: Vec<Val>) -> Result<Vec<Val>, NoMemory> {

@@ -4,7 +4,7 @@ ghost use Rattle.hop_jobs.specs.Wc.{is_some_part, piece_pair};
 
 use crate::numbers::{append_line, number, one_number, sum};
 use hop_base::{Blob, NoMemory, Pair, Val};
-use hop_laws::Job;
+use hop_laws::{Job, PairSink};
 use memchr::memchr2;
 use std::alloc::Global;
 
@@ -36,8 +36,20 @@ impl Job for Wc {
         Ok(pairs)
     }
 
-    fn combine(&self, alloc: Global, _key: &Blob, vals: Vec<Val>) -> Result<Vec<Val>, NoMemory> {
-        one_number(alloc, sum(&vals))
+    fn emit<S: PairSink>(&self, _alloc: Global, line: &[u8], sink: &mut S) -> Result<(), NoMemory> {
+        let mut rest = line;
+        while let Some(end) = memchr2(b' ', b'\t', rest) {
+            emit_piece(&rest[..end], sink)?;
+            let (_, later) = rest.split_at(end + 1);
+            rest = later;
+        }
+        emit_piece(rest, sink)?;
+        Ok(())
+    }
+
+    fn combine(&self, _alloc: Global, _key: &Blob, vals: Vec<Val>) -> Result<Vec<Val>, NoMemory> {
+        let n = sum(&vals);
+        one_number(vals, n)
     }
 
     fn reduce(
@@ -60,6 +72,17 @@ fn push_piece(alloc: Global, pairs: &mut Vec<Pair>, piece: &[u8]) -> Result<(), 
         let key = Blob::from_short(alloc, piece)?;
         let val = number(alloc, 1)?;
         pairs.push(Pair { key, val })?;
+    }
+    Ok(())
+}
+
+// Hands the piece with the number 1 to a sink, or nothing where the piece is empty.
+fn emit_piece<S: PairSink>(piece: &[u8], sink: &mut S) -> Result<(), NoMemory>
+    requires { length piece.now ≤ 131071 }
+    ensures { OnOk result (S.takes sink.old (map piece_pair (filter is_some_part (piece.now ∷ []))) sink.new) }
+{
+    if !piece.is_empty() {
+        sink.take(piece, 1, b"")?;
     }
     Ok(())
 }

@@ -1,7 +1,10 @@
 pub mod Combined
 pub mod Emitted
+pub mod EntryLaws
 pub mod FlatGroupLaws
+pub mod GatheredLaws
 pub mod GroupLaws
+pub mod HeadLaws
 pub mod Keys
 pub mod Lines
 pub mod StandsLaws

@@ -4,6 +4,7 @@ ghost use Rattle.hop_base.specs.Meaning.{Meaning};
 ghost use Rattle.hop_base.specs.Order.{val_cmp};
 ghost use Rattle.hop_laws.specs.Laws.{IsLawful};
 
+use crate::sink::PairSink;
 use hop_base::{Blob, NoMemory, Pair, Val};
 use std::alloc::Global;
 
@@ -22,6 +23,19 @@ pub trait Job {
     fn map(&self, alloc: Global, line: &[u8]) -> Result<Vec<Pair>, NoMemory>
         requires { length line.now ≤ 131050 }
         ensures { IfOk result (λ pairs. pairs.items ≡ (meaning self.now).emits line.now) };
+
+    /// Hands the pairs that it emits for a record of at most 131,050 bytes to a sink, in order. Unless a job
+    /// says otherwise they are those of `map`; a job that has them as slices of the record spares the memory.
+    fn emit<S: PairSink>(&self, alloc: Global, line: &[u8], sink: &mut S) -> Result<(), NoMemory>
+        requires { length line.now ≤ 131050 }
+        ensures { OnOk result (S.takes sink.old ((meaning self.now).emits line.now) sink.new) }
+    {
+        let pairs = self.map(alloc, line)?;
+        for pair in &pairs {
+            sink.take(pair.key.as_slice(), pair.val.n, pair.val.s.as_slice())?;
+        }
+        Ok(())
+    }
 
     /// What these values of the key, one or more in order, are combined to. After `NoMemory` they
     /// are gone.

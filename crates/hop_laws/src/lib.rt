@@ -2,12 +2,19 @@
 //! definition, and the passes over the groups of a sheet that reduce and combine it.
 #![tactic(auto)]
 
+mod entry;
 pub mod flat_groups;
+pub mod gathered;
 pub mod groups;
+mod groups_in;
+mod head;
 pub mod job;
 pub mod partitions;
+pub mod sink;
 
 pub use flat_groups::{combine_flat, reduce_flat};
+pub use gathered::Gathered;
 pub use groups::{combine_sheet, reduce_sheet};
 pub use job::Job;
 pub use partitions::partition;
+pub use sink::PairSink;

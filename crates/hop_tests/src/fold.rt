@@ -3,7 +3,7 @@ ghost use Rattle.std.specs.Prelude.{◌≤◌, length};
 
 use hop_base::{Blob, NoMemory, Pair, Text, Texts, Val};
 use hop_fold::{block, block_lines};
-use hop_jobs::{Sum, Top};
+use hop_jobs::{Sum, Top, Wc};
 use hop_laws::Job;
 use hop_records::{Book, BookFault};
 use std::alloc::Global;
@@ -90,6 +90,19 @@ fn blocks_the_lines_of_texts(rt: HostRuntime) -> Result<(), Fail> {
     assert_eq!(rt;
         labelled(alloc, &out)?.as_slice(),
         b":a\t3\nc\t3\n:".as_slice()
+    );
+    Ok(())
+}
+
+// Keys about as long as the part of a key that stands in an entry, and keys that end in zero bytes.
+#[test]
+fn tells_keys_apart_by_what_follows_their_heads(rt: HostRuntime) -> Result<(), Fail> {
+    let alloc = rt.alloc();
+    let input = b"abcdefghijklmnopq a\0 abcdefghijklmno abcdefghijklmn\0 a\0\0 abcdefghijklmn\nabcdefghijklmnop a abcdefghijklmno\0 a\0";
+    let text = blocked(alloc, &Wc, input, 1)?;
+    assert_eq!(rt;
+        text.as_slice(),
+        b":a\t1\na\0\t2\na\0\0\t1\nabcdefghijklmn\t1\nabcdefghijklmn\0\t1\nabcdefghijklmno\t1\nabcdefghijklmno\0\t1\nabcdefghijklmnop\t1\nabcdefghijklmnopq\t1\n".as_slice()
     );
     Ok(())
 }
