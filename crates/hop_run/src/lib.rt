@@ -3,6 +3,7 @@
 
 mod head;
 pub mod heads;
+mod making;
 mod mapping;
 mod merging;
 pub mod message;
