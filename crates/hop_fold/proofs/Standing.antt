@@ -1,10 +1,10 @@
 -- What the lists of the partitions stand for, while records are mapped.
-use Rattle.std.proofs.Common.{◌≡◌, ◌≢◌, ℕ, suc, ◌+◌, ◌<◌, ◌≤◌, ◌^◌, ◌⊎◌, inl, inr, Bool, true, false, cond, List, [], ◌∷◌, ◌++◌, length, map, get_or, set, take, drop, refl, sym, ap, ◌∙◌, subst, arith, append_assoc, length-set}
+use Rattle.std.proofs.Common.{◌≡◌, ◌≢◌, ℕ, suc, ◌+◌, ◌<◌, ◌≤◌, ◌^◌, ◌⊎◌, inl, inr, Bool, true, false, cond, List, [], ◌∷◌, ◌++◌, length, map, get_or, set, refl, sym, ap, ◌∙◌, subst, arith, length-set}
 use Rattle.std.specs.Prelude.{All, ◌==◌, replicate}
 use Rattle.std.specs.List.{range_with_len}
 use Rattle.std.specs.List.Sorted.{IsPermutation}
 use Rattle.std.proofs.lemmas.Bool.Decides.{eqb_tells}
-use Rattle.std.proofs.lemmas.List.{append-nil, get_or-replicate, length-replicate, take_all, drop_all, get_or-set_same, get_or-set_other}
+use Rattle.std.proofs.lemmas.List.{append-nil, get_or-replicate, length-replicate, get_or-set_same, get_or-set_other}
 use Rattle.std.proofs.lemmas.List.Elements.{All-nil, All-cons, All-append}
 use Rattle.std.proofs.lemmas.List.Sorted.{IsPermutation-refl}
 use Rattle.hop_base.specs.declared.value.Pair.{Pair}
@@ -13,7 +13,7 @@ use Rattle.hop_base.specs.Meaning.{Meaning}
 use Rattle.hop_base.specs.Order.{IsValidPair}
 use Rattle.hop_laws.specs.Blocking.{emitted, blocking, blocking_texts}
 use Rattle.hop_laws.specs.Groups.{red}
-use Rattle.hop_laws.specs.Laws.{AlwaysCombinesWell, ReducesAlike, IsLawful}
+use Rattle.hop_laws.specs.Laws.{AlwaysCombinesWell, ReducesAlike}
 use Rattle.hop_laws.specs.Partition.{partition_of, of_partition}
 use Rattle.hop_laws.specs.Stands.{StandsFor, KeepsStanding, combined_pairs, pair_of}
 use Rattle.hop_laws.proofs.Emitted.{emitted_more, valid_partition}

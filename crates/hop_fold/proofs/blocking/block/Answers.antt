@@ -3,7 +3,7 @@ use Rattle.std.proofs.lemmas.List.{take_more, take_all}
 use Rattle.std.proofs.lemmas.Option.{get_or_from_slice_get}
 use Rattle.hop_base.specs.declared.value.Val.{Val}
 use Rattle.hop_fold.specs.Gathering.{TakesIn, Gathers}
-use Rattle.hop_fold.proofs.Standing.{gathers_none, gathers_more, texts_gathered}
+use Rattle.hop_fold.proofs.Standing.{gathers_more, texts_gathered}
 use Rattle.hop_fold.proofs.blocking.block.Goals as goal
 
 -- one more record is mapped

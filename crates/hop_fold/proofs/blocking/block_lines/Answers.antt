@@ -34,8 +34,13 @@ loop-rest-preserved g c =
       same = taken.same ∙ c.loop-rest.invariant.same;
       job = c.in_ok-emit.ensures.0 ∙ c.loop-rest.invariant.job;
       short = All-tail (λ line. length line ≤ 131050) line (records_of c.first_line.result.1.now) (subst (λ (rs : List (List ℕ)). All (λ line. length line ≤ 131050) rs) c.first_line.ensures.cut c.loop-rest.invariant.short);
-      gathers = (done ++ line ∷ [], (gathers_more meaning done line c.loop-rest.lists.lists.items c.emit.new.sink.lists.items taken c.loop-rest.invariant.gathers.1.0,
-          append_assoc done (line ∷ []) (records_of c.first_line.result.1.now) ∙ ap (λ rs. done ++ rs) (sym c.first_line.ensures.cut) ∙ c.loop-rest.invariant.gathers.1.1));
+      gathers = (
+        done ++ line ∷ [],
+        (
+          gathers_more meaning done line c.loop-rest.lists.lists.items c.emit.new.sink.lists.items taken c.loop-rest.invariant.gathers.1.0,
+          append_assoc done (line ∷ []) (records_of c.first_line.result.1.now) ∙ ap (λ rs. done ++ rs) (sym c.first_line.ensures.cut) ∙ c.loop-rest.invariant.gathers.1.1,
+        ),
+      );
     }
 
 none_left : (rest : List ℕ) → length rest ≡ 0 → records_of rest ≡ []

@@ -1,4 +1,4 @@
-use Rattle.std.proofs.Common.{◌≡◌, ◌<◌, List, [], ◌∷◌, length, get_or, refl, ap, ◌∙◌, subst, arith}
+use Rattle.std.proofs.Common.{◌≡◌, ◌<◌, List, [], ◌∷◌, length, refl, ap, ◌∙◌, subst, arith}
 use Rattle.std.proofs.lemmas.List.{get_or_default}
 use Rattle.hop_base.specs.declared.value.Pair.{Pair}
 use Rattle.hop_laws.specs.Partition.{partition_of}
@@ -15,7 +15,9 @@ returns g c =
     let q = c.partition-p.result in
     let pair : Pair = pair_of c.args.key.now c.args.number c.args.text.now in
     let r : c.len.result ≡ length lists = omega arith in
-    let below : q < length lists = omega (arith, c.partition-p.ensures.below) in
-    (refl, taken_one reduce lists _ c.add.new.self q pair (record { key = c.requires.short_key; value = record { number = omega arith; text = c.requires.short_text } }) below
-    (c.partition-p.ensures.value ∙ ap (partition_of c.args.key.now) r) refl
-    (subst (λ (ps : List Pair). StandsWith reduce ps (pair ∷ []) c.add.new.self) (c.index_mut.ensures.value ∙ get_or_default lists q _ [] below) c.in_ok-add.ensures))
+    let below : q < length lists = omega (arith, c.partition-p.ensures.below) in (
+      refl,
+      taken_one reduce lists _ c.add.new.self q pair (record { key = c.requires.short_key; value = record { number = omega arith; text = c.requires.short_text } }) below
+          (c.partition-p.ensures.value ∙ ap (partition_of c.args.key.now) r) refl
+          (subst (λ (ps : List Pair). StandsWith reduce ps (pair ∷ []) c.add.new.self) (c.index_mut.ensures.value ∙ get_or_default lists q _ [] below) c.in_ok-add.ensures),
+    )

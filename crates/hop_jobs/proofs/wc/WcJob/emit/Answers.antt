@@ -1,7 +1,7 @@
 use Rattle.std.proofs.Common.{◌++◌, [], ◌∷◌, List, ℕ, map, refl, subst, take, arith}
 use Rattle.std.specs.Prelude.{filter}
 use Rattle.hop_base.specs.declared.value.Pair.{Pair}
-use Rattle.hop_jobs.specs.Wc.{is_some_part, piece_pair, wc_emits}
+use Rattle.hop_jobs.specs.Wc.{is_some_part, piece_pair}
 use Rattle.hop_jobs.proofs.Pieces.{emits_more, emits_last}
 use Rattle.hop_jobs.proofs.wc.WcJob.emit.Goals as goal
 
@@ -11,10 +11,15 @@ loop-end-preserved g c =
     let piece : List ℕ = take c.in-Some.end c.loop-end.rest.now in
     let given : List Pair = map piece_pair (filter is_some_part (piece ∷ [])) in
     record {
-      told = (done ++ given, (g.met.S.PairSink.takes_more c.args.sink.now c.loop-end.sink c.emit_piece.new.sink done given c.loop-end.invariant.told.1.0 c.in_ok-emit_piece.ensures,
+      told = (
+        done ++ given,
+        (
+          g.met.S.PairSink.takes_more c.args.sink.now c.loop-end.sink c.emit_piece.new.sink done given c.loop-end.invariant.told.1.0 c.in_ok-emit_piece.ensures,
           emits_more c.loop-end.rest.now c.split_at.result.1.now piece c.args.line.now c.in-Some.end done (done ++ given)
-          c.in-Some.ensures.0.high (λ j lt. c.in-Some.ensures.0.before j (omega arith) lt) c.in-Some.ensures.1
-          refl c.split_at.ensures.back refl c.loop-end.invariant.told.1.1));
+              c.in-Some.ensures.0.high (λ j lt. c.in-Some.ensures.0.before j (omega arith) lt) c.in-Some.ensures.1
+              refl c.split_at.ensures.back refl c.loop-end.invariant.told.1.1,
+        ),
+      );
       short = omega (arith, c.split_at.ensures.back_len, c.loop-end.invariant.short);
     }
 
