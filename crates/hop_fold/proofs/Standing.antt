@@ -15,7 +15,8 @@ use Rattle.hop_laws.specs.Blocking.{emitted, blocking, blocking_texts}
 use Rattle.hop_laws.specs.Groups.{red}
 use Rattle.hop_laws.specs.Laws.{AlwaysCombinesWell, ReducesAlike}
 use Rattle.hop_laws.specs.Partition.{partition_of, of_partition}
-use Rattle.hop_laws.specs.Stands.{StandsFor, KeepsStanding, combined_pairs, pair_of}
+use Rattle.hop_base.specs.Fields.{pair_of}
+use Rattle.hop_laws.specs.Stands.{StandsFor, KeepsStanding, combined_pairs}
 use Rattle.hop_laws.proofs.Emitted.{emitted_more, valid_partition}
 use Rattle.hop_laws.proofs.StandsLaws.{stands_sorted, stands_merged, stands_combined, stands_itself, stands_through, red_stands}
 use Rattle.hop_fold.specs.Gathering.{StandsWith, TakesIn, Gathers}

@@ -2,7 +2,8 @@
 ghost use Rattle.std.specs.Prelude.{◌≡◌, ◌≤◌, ◌∷◌, [], ℕ, List, length, replicate, map, IfOk, OnOk};
 ghost use Rattle.hop_base.specs.declared.value.Pair.{Pair};
 ghost use Rattle.hop_laws.specs.Groups.{red};
-ghost use Rattle.hop_laws.specs.Stands.{KeepsStanding, pair_of};
+ghost use Rattle.hop_base.specs.Fields.{pair_of};
+ghost use Rattle.hop_laws.specs.Stands.{KeepsStanding};
 ghost use Rattle.hop_fold.specs.Gathering.{StandsWith};
 
 use hop_base::{NoMemory, Text};

@@ -23,7 +23,7 @@ use Rattle.hop_laws.specs.declared.entry.Entry.{Entry}
 use Rattle.hop_laws.specs.declared.head.Head.{Head}
 use Rattle.hop_laws.specs.Entries.{stored_key, text_in, key_in, pair_in, pairs_in, stored_of, stored_bytes, IsEntry, value_cmp, entry_cmp}
 use Rattle.hop_laws.specs.Heads.{head_of, short_key}
-use Rattle.hop_laws.specs.Stands.{pair_of}
+use Rattle.hop_base.specs.Fields.{pair_of}
 use Rattle.hop_laws.proofs.HeadLaws.{AreBytes, head_cmp, heads_less, heads_same, short_held}
 
 pub entry_total : (arena : List ℕ) → IsTotalOrder (entry_cmp arena)

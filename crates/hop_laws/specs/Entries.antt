@@ -7,7 +7,7 @@ use Rattle.hop_base.specs.declared.value.Pair.{Pair}
 use Rattle.hop_base.specs.Order.{key_cmp, IsValidPair}
 use Rattle.hop_laws.specs.declared.entry.Entry.{Entry}
 use Rattle.hop_laws.specs.Heads.{head_of, short_key}
-use Rattle.hop_laws.specs.Stands.{pair_of}
+use Rattle.hop_base.specs.Fields.{pair_of}
 
 -- the part of the key that stands in the arena
 abbrev pub stored_key : List ℕ → Entry → List ℕ

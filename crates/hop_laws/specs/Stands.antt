@@ -15,10 +15,6 @@ pub record StandsFor (reduce : List ℕ → List Val → List ℕ) (sheet pairs 
 abbrev pub KeepsStanding : (List ℕ → List Val → List ℕ) → List Pair → List Pair → Type 0
 KeepsStanding reduce old new = (ps : List Pair) → StandsFor reduce old ps → StandsFor reduce new ps
 
--- a pair, by its parts
-abbrev pub pair_of : List ℕ → ℕ → List ℕ → Pair
-pair_of key number text = record { key = key; val = record { n = number; s = text } }
-
 -- the values under a key
 abbrev pub pairs_at : List ℕ → List Val → List Pair
 pairs_at k vs = map (λ v. record { key = k; val = v }) vs

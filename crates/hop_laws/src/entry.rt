@@ -3,7 +3,7 @@ ghost use Rattle.std.specs.Prelude.{◌≡◌, ◌≤◌, length, take, drop, If
 ghost use Rattle.std.specs.Str.{bytes_eq};
 ghost use Rattle.hop_laws.specs.Entries.{stored_key as stored_key_of, text_in, key_in, pair_in, IsEntry, entry_cmp, value_cmp, stored_bytes};
 ghost use Rattle.hop_laws.specs.Heads.{head_bytes};
-ghost use Rattle.hop_laws.specs.Stands.{pair_of};
+ghost use Rattle.hop_base.specs.Fields.{pair_of};
 
 use crate::head::Head;
 use hop_base::NoMemory;

@@ -3,7 +3,8 @@ ghost use Rattle.std.specs.Prelude.{◌≡◌, ◌≤◌, ◌++◌, ◌∷◌, [
 ghost use Rattle.hop_base.specs.Order.{pair_cmp, IsValidPair};
 ghost use Rattle.hop_base.specs.Sorted.{ord};
 ghost use Rattle.hop_laws.specs.Groups.{red};
-ghost use Rattle.hop_laws.specs.Stands.{combined_pairs, pair_of};
+ghost use Rattle.hop_base.specs.Fields.{pair_of};
+ghost use Rattle.hop_laws.specs.Stands.{combined_pairs};
 
 use crate::entry::{Entry, append, is_same_key, sort};
 use crate::groups_in::{combine_entries, give_entries, reduce_entries};

@@ -1,7 +1,7 @@
 //! What takes pairs.
 ghost use Rattle.std.specs.Prelude.{◌≡◌, ◌≤◌, ◌∷◌, ◌++◌, [], List, length, OnOk};
 ghost use Rattle.hop_base.specs.declared.value.Pair.{Pair};
-ghost use Rattle.hop_laws.specs.Stands.{pair_of};
+ghost use Rattle.hop_base.specs.Fields.{pair_of};
 
 use hop_base::NoMemory;
 

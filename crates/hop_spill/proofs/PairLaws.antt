@@ -14,9 +14,9 @@ use Rattle.hop_base.specs.Order.{pair_cmp, IsValidPair}
 use Rattle.hop_base.proofs.OrderLaws.{pair_total}
 use Rattle.hop_base.proofs.Sorted.{IsUptoAll, IsAscending, IsAscending-IsSorted, IsSorted-IsAscending}
 use Rattle.hop_laws.specs.Partition.{partition_of}
-use Rattle.hop_base.specs.Fields.{counted, long, pair_text}
+use Rattle.hop_base.specs.Fields.{counted, long, pair_text, pair_of}
 use Rattle.hop_spill.specs.Spelling.{IsSheetOf}
-use Rattle.hop_spill.specs.Reading.{◌>>=◌, number_at, blob_at, is_smaller, may_follow, pair_of, pair_at, pairs_at}
+use Rattle.hop_spill.specs.Reading.{◌>>=◌, number_at, blob_at, is_smaller, may_follow, pair_at, pairs_at}
 use Rattle.hop_base.proofs.Truth.{both_true}
 use Rattle.hop_spill.proofs.FieldLaws.{IsBytes, bind_ok, passed_ok, ok_is, Takes, Takes-nothing, Takes-then, long_takes, long_again, blob_takes, blob_again}
 

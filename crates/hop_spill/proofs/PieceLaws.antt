@@ -10,11 +10,11 @@ use Rattle.std.proofs.lemmas.List.Concat.{flat_map-cons}
 use Rattle.std.specs.Int.{w32, w64}
 use Rattle.hop_base.specs.Order.{IsValidPair}
 use Rattle.hop_spill.specs.Pieces.{sheet_pieces, pair_pieces, IsField}
-use Rattle.hop_base.specs.Fields.{word, long, counted, pair_text}
+use Rattle.hop_base.specs.Fields.{word, long, counted, pair_text, pair_of}
 use Rattle.hop_spill.specs.Spelling.{AreSheetsFrom}
 use Rattle.hop_spill.proofs.FieldLaws.{word_again, long_again, blob_again, word_within_again}
 use Rattle.hop_spill.proofs.PairLaws.{Follow, pair_again, follow_from_sheet}
-use Rattle.hop_spill.specs.Reading.{◌>>=◌, number_at, word_within, blob_at, may_follow, pair_of, pair_at, pairs_at, sheet_at, sheets_at}
+use Rattle.hop_spill.specs.Reading.{◌>>=◌, number_at, word_within, blob_at, may_follow, pair_at, pairs_at, sheet_at, sheets_at}
 
 -- a reader's answer: it fails with at most n bytes left or with m or more, or leaves at most n
 pub record Skips {A : Type 0} (r : Result (A × List ℕ) ℕ) (n m : ℕ) : Type 0 where

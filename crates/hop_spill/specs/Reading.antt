@@ -4,6 +4,7 @@ use Rattle.std.specs.Prelude.{ℕ, zero, suc, ◌+◌, ◌-◌, Bool, false, not
 use Rattle.std.specs.Int.{Width, w32, w64, byte_len, from_be_bytes}
 use Rattle.std.specs.Ordering.{is_gt}
 use Rattle.hop_base.specs.declared.value.Pair.{Pair}
+use Rattle.hop_base.specs.Fields.{pair_of}
 use Rattle.hop_base.specs.Order.{pair_cmp}
 use Rattle.hop_laws.specs.Partition.{partition_of}
 use Rattle.hop_spill.specs.declared.spill.Spill.{Spill}
@@ -39,9 +40,6 @@ is_smaller (Some before) pair = is_gt (pair_cmp before pair)
 -- whether a pair may stand here, in the sheet of partition p of r
 abbrev pub may_follow : ℕ → ℕ → Option Pair → Pair → Bool
 may_follow p r before pair = not (is_smaller before pair) && (partition_of pair.key r == p)
-
-abbrev pub pair_of : List ℕ → ℕ → List ℕ → Pair
-pair_of key n text = record { key = key; val = record { n = n; s = text } }
 
 -- a pair; its order and its partition are tested after all its fields
 unfoldable pub pair_at : ℕ → ℕ → Option Pair → List ℕ → Result (Pair × List ℕ) ℕ

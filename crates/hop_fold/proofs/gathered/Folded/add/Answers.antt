@@ -1,6 +1,6 @@
 use Rattle.std.proofs.Common.{◌++◌, [], ◌∷◌, ap, ◌∙◌, arith}
 use Rattle.hop_base.specs.declared.value.Pair.{Pair}
-use Rattle.hop_laws.specs.Stands.{pair_of}
+use Rattle.hop_base.specs.Fields.{pair_of}
 use Rattle.hop_fold.proofs.Standing.{added}
 use Rattle.hop_fold.proofs.gathered.Folded.add.Goals as goal
 

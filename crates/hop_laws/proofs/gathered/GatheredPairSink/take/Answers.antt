@@ -3,7 +3,7 @@ use Rattle.std.specs.Prelude.{All, OnErr, Result}
 use Rattle.hop_base.specs.declared.value.Pair.{Pair}
 use Rattle.hop_laws.specs.declared.entry.Entry.{Entry}
 use Rattle.hop_laws.specs.Entries.{pairs_in, IsEntry}
-use Rattle.hop_laws.specs.Stands.{pair_of}
+use Rattle.hop_base.specs.Fields.{pair_of}
 use Rattle.hop_laws.proofs.EntryLaws.{entries_kept, pairs_kept}
 use Rattle.hop_laws.proofs.GatheredLaws.{pushed_entries, pushed_pairs}
 use Rattle.hop_laws.proofs.gathered.GatheredPairSink.take.Goals as goal
