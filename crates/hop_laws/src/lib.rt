@@ -5,7 +5,6 @@
 mod entry;
 pub mod flat_groups;
 pub mod gathered;
-pub mod groups;
 mod groups_in;
 mod head;
 pub mod job;
@@ -14,7 +13,6 @@ pub mod sink;
 
 pub use flat_groups::{combine_flat, reduce_flat};
 pub use gathered::Gathered;
-pub use groups::{combine_sheet, reduce_sheet};
 pub use job::Job;
 pub use partitions::partition;
 pub use sink::PairSink;
