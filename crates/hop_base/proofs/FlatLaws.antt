@@ -177,6 +177,48 @@ start_within bytes starts ps k d h lt =
     ∙ ap length (sym h.text) in
     omega (arith, here, whole)
 
+-- the text of a pair ends where that of the next one begins
+pub text_ends : (bytes starts : List ℕ) (ps : List Pair) (k d d' : ℕ) (e : Pair) → IsTextOf bytes starts ps → k + 1 < length ps → get_or starts (k + 1) d ≡ get_or starts k d' + length (pair_text (get_or ps k e))
+text_ends bytes starts ps k d d' e h lt =
+    let p : Pair = get_or ps k e in
+    let below : k < length ps = omega arith in
+    let next : get_or starts (k + 1) d ≡ 0 + length (pairs_text (take (k + 1) ps)) = ap (λ s. get_or s (k + 1) d) h.places ∙ start_is 0 ps (k + 1) d lt in
+    let here : get_or starts k d' ≡ 0 + length (pairs_text (take k ps)) = ap (λ s. get_or s k d') h.places ∙ start_is 0 ps k d' below in
+    let more : pairs_text (take (k + 1) ps) ≡ pairs_text (take k ps) ++ pair_text p =
+    ap pairs_text (take_more ps k e below) ∙ flat_map-append pair_text (take k ps) (p ∷ []) ∙ ap (λ t. pairs_text (take k ps) ++ t) (append-nil (pair_text p)) in
+    omega (arith, next, here, ap length more, length-append (pairs_text (take k ps)) (pair_text p))
+
+-- up to there it is the text of that pair
+pub text_cut : (bytes starts rest text : List ℕ) (ps : List Pair) (k d d' at n : ℕ) (e : Pair) → IsTextOf bytes starts ps → k + 1 < length ps → at ≡ get_or starts k d' → rest ≡ drop at bytes → n + at ≡ get_or starts (k + 1) d → text ≡ take n rest → text ≡ pair_text (get_or ps k e)
+text_cut bytes starts rest text ps k d d' at n e h lt a r m t =
+    let p : Pair = get_or ps k e in
+    let below : k < length ps = omega arith in
+    let len : length (pair_text p) ≡ n = omega (arith, m, a, text_ends bytes starts ps k d d' e h lt) in
+    t ∙ ap (take n) (r ∙ ap (λ i. drop i bytes) a ∙ text_there bytes starts ps k d' e h below) ∙ take_at (pair_text p) (pairs_text (drop (k + 1) ps)) n len
+
+-- it lies in the bytes
+pub text_within : (bytes starts rest : List ℕ) (ps : List Pair) (k d d' at : ℕ) → IsTextOf bytes starts ps → k + 1 < length ps → at ≡ get_or starts k d' → rest ≡ drop at bytes → (at ≤ get_or starts (k + 1) d) × (get_or starts (k + 1) d ≤ at + length rest)
+text_within bytes starts rest ps k d d' at h lt a r =
+    let e : Pair = pair_of [] 0 [] in
+    let p : Pair = get_or ps k e in
+    let below : k < length ps = omega arith in
+    let ends : get_or starts (k + 1) d ≡ get_or starts k d' + length (pair_text p) = text_ends bytes starts ps k d d' e h lt in
+    let whole : rest ≡ pair_text p ++ pairs_text (drop (k + 1) ps) = r ∙ ap (λ i. drop i bytes) a ∙ text_there bytes starts ps k d' e h below in
+    (omega (arith, a, ends), omega (arith, a, ends, ap length whole, length-append (pair_text p) (pairs_text (drop (k + 1) ps))))
+
+-- that of the last pair ends with the bytes
+pub text_last : (bytes starts rest : List ℕ) (ps : List Pair) (k d at : ℕ) (e : Pair) → IsTextOf bytes starts ps → k < length ps → length ps ≤ k + 1 → at ≡ get_or starts k d → rest ≡ drop at bytes → rest ≡ pair_text (get_or ps k e)
+text_last bytes starts rest ps k d at e h below lt a r =
+    r ∙ ap (λ i. drop i bytes) a ∙ text_there bytes starts ps k d e h below
+    ∙ ap (λ qs. pair_text (get_or ps k e) ++ pairs_text qs) (drop_over ps (k + 1) lt)
+    ∙ append-nil (pair_text (get_or ps k e))
+  where
+    drop_over : (qs : List Pair) (n : ℕ) → length qs ≤ n → drop n qs ≡ []
+    drop_over [] zero lt = refl
+    drop_over [] (suc n) lt = refl
+    drop_over (q ∷ qs) zero lt = absurd (omega arith)
+    drop_over (q ∷ qs) (suc n) lt = drop_over qs n (omega arith)
+
 -- what is read at a place is the pair that begins there
 pub pair_there : (bytes starts : List ℕ) (ps : List Pair) (k d : ℕ) (r : Pair) → IsTextOf bytes starts ps → k < length ps → r ≡ pair_front (drop (get_or starts k d) bytes) → slice_get ps k ≡ Some r
 pair_there bytes starts ps k d r h lt e =

@@ -1,5 +1,6 @@
 //! Writing sheets as bytes, pair by pair.
-ghost use Rattle.std.specs.Prelude.{◌≡◌, [], ◌∷◌, ◌+◌, ◌<◌, ◌≤◌, ◌++◌, length, IfOk, OnOk, OnErr, IsSorted};
+ghost use Rattle.std.specs.Prelude.{◌≡◌, [], ◌∷◌, ◌+◌, ◌<◌, ◌≤◌, ◌++◌, length, slice_index_or, IfOk, OnOk, OnErr, IsSorted};
+ghost use Rattle.hop_base.specs.declared.value.Pair.{Pair};
 ghost use Rattle.hop_base.specs.Order.{pair_cmp};
 ghost use Rattle.hop_base.specs.Fields.{pair_of, pair_text};
 
@@ -76,6 +77,22 @@ impl FlatSheetBuilder {
         ensures err { OnErr result (self.new ≡ self.old) }
     {
         self.push(pair.key, pair.n, pair.text)
+    }
+
+    /// Pair `k` of a sheet, counted from 0 and below its `len`, is last. Its text is copied as one slice.
+    /// After `NoMemory` the pairs are as before.
+    pub fn push_from(&mut self, sheet: &FlatSheet, k: u64) -> Result<(), NoMemory>
+        requires { k < length sheet.now }
+        ensures ok { OnOk result ((d : Pair) → self.new ≡ self.old ++ slice_index_or sheet.now k d ∷ []) }
+        ensures err { OnErr result (self.new ≡ self.old) }
+    {
+        sheet.known();
+        let text = sheet.text(k);
+        let at = self.bytes.len();
+        self.bytes.reserve(text.len())?;
+        self.starts.push(at)?;
+        self.bytes.extend_reserved(text);
+        Ok(())
     }
 
     /// The sheet of these pairs, which are in order. It copies none of their bytes.

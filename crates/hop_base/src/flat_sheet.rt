@@ -1,5 +1,5 @@
 //! Sheets as bytes.
-ghost use Rattle.std.specs.Prelude.{◌≡◌, ℕ, List, [], ◌+◌, ◌<◌, ◌≤◌, ◌++◌, length, drop, slice_get, Some, IfOk};
+ghost use Rattle.std.specs.Prelude.{◌≡◌, ℕ, List, [], ◌+◌, ◌<◌, ◌≤◌, ◌++◌, length, drop, slice_get, slice_index_or, Some, IfOk};
 ghost use Rattle.hop_base.specs.declared.value.Pair.{Pair};
 ghost use Rattle.hop_base.specs.Order.{IsSheet, IsValidPair};
 ghost use Rattle.hop_base.specs.Fields.{word_front, long_front, counted_front, behind_counted, pair_front, pair_text};
@@ -86,6 +86,22 @@ impl FlatSheet {
         let at = self.starts[k as usize];
         let (_, rest) = self.bytes.as_slice().split_at(at);
         front(rest)
+    }
+
+    // The text of pair `k`, counted from 0 and below `len`.
+    pub(crate) fn text(&self, k: u64) -> &[u8]
+        requires { k < length self.now }
+        ensures { (d : Pair) → result.now ≡ pair_text (slice_index_or self.now k d) }
+    {
+        let at = self.starts[k as usize];
+        let (_, rest) = self.bytes.as_slice().split_at(at);
+        let next = k as usize + 1;
+        if next < self.starts.len() {
+            let (text, _) = rest.split_at(self.starts[next] - at);
+            text
+        } else {
+            rest
+        }
     }
 
     /// The texts of the pairs in order, joined. It takes no memory.

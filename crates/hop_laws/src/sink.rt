@@ -3,7 +3,7 @@ ghost use Rattle.std.specs.Prelude.{◌≡◌, ◌≤◌, ◌∷◌, ◌++◌, [
 ghost use Rattle.hop_base.specs.declared.value.Pair.{Pair};
 ghost use Rattle.hop_base.specs.Fields.{pair_of};
 
-use hop_base::NoMemory;
+use hop_base::{FlatSheetBuilder, NoMemory};
 
 /// What takes pairs, one after the other, each as its key, its number and its text.
 pub trait PairSink {
@@ -21,4 +21,19 @@ pub trait PairSink {
 
     /// Some pairs and then others are all of them.
     ghost takes_more: { (s t u : Self) (ps qs : List Pair) → takes s ps t → takes t qs u → takes s (ps ++ qs) u };
+}
+
+impl PairSink for FlatSheetBuilder {
+    ghost use Rattle.std.specs.Prelude.{◌≡◌, ◌++◌};
+    ghost use Rattle.hop_laws.specs.Appending.{appends_none, appends_more};
+
+    ghost takes = { λ s ps t. t ≡ s ++ ps };
+
+    ghost takes_none = { appends_none };
+
+    ghost takes_more = { appends_more };
+
+    fn take(&mut self, key: &[u8], number: u64, text: &[u8]) -> Result<(), NoMemory> {
+        self.push(key, number, text)
+    }
 }

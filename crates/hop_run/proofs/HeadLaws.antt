@@ -1,6 +1,6 @@
 -- Merging sheets by their heads.
-use Rattle.std.proofs.Common.{◌≡◌, ℕ, ◌+◌, ◌<◌, List, [], ◌∷◌, ◌++◌, length, take, drop, get_or, false, refl, sym, ap, subst, ◌∙◌, arith, append_assoc}
-use Rattle.std.specs.Prelude.{All, IsSorted, sum_by, slice_get, Some}
+use Rattle.std.proofs.Common.{◌≡◌, ℕ, ◌+◌, ◌<◌, List, [], ◌∷◌, ◌++◌, length, take, drop, get_or, false, Ok, Err, refl, sym, ap, subst, ◌∙◌, arith, append_assoc}
+use Rattle.std.specs.Prelude.{All, IsSorted, sum_by, slice_get, Some, OnOk, Result}
 use Rattle.hop_laws.proofs.GroupLaws.{sorted_drop}
 use Rattle.std.specs.BinaryHeap.{IsUpperBound}
 use Rattle.std.specs.List.{AllByRecursion, flat_map}
@@ -114,6 +114,11 @@ head_of ps at p lt there = ap (λ q. q ∷ drop (at + 1) ps) (sym (get_or_from_s
 
 pub head_sorted : (ps : List Pair) (at : ℕ) (p : Pair) → at < length ps → slice_get ps at ≡ Some p → IsSorted pair_cmp ps → IsSorted pair_cmp (p ∷ drop (at + 1) ps)
 head_sorted ps at p lt there sorted = subst (λ (qs : List Pair). IsSorted pair_cmp qs) (sym (head_of ps at p lt there)) (sorted_drop ps at sorted)
+
+-- the pair that was pushed is the first one
+pub pushed_first : {T E : Type 0} (r : Result T E) (old new ps : List Pair) (at : ℕ) (p first : Pair) → slice_get ps at ≡ Some p → p ≡ first → OnOk r ((d : Pair) → new ≡ old ++ get_or ps at d ∷ []) → OnOk r (new ≡ old ++ first ∷ [])
+pushed_first (Ok x) old new ps at p first there is h = h p ∙ ap (λ q. old ++ q ∷ []) (get_or_from_slice_get ps at p p there ∙ is)
+pushed_first (Err e) old new ps at p first there is h = tt
 
 -- ---- one run after the other
 

@@ -1,29 +1,97 @@
 -- Combined runs of a part.
-use Rattle.std.proofs.Common.{◌≡◌, ℕ, ◌≤◌, List, [], ◌∷◌, length, sym, ap, subst, ◌∙◌}
-use Rattle.std.specs.Prelude.{All}
-use Rattle.std.proofs.lemmas.List.{append-nil}
+use Rattle.std.proofs.Common.{◌≡◌, ◌≢◌, ℕ, suc, ◌+◌, ◌<◌, ◌≤◌, ◌⊎◌, inl, inr, Bool, true, false, cond, List, [], ◌∷◌, ◌++◌, length, map, get_or, set, refl, sym, ap, subst, ◌∙◌, arith, length-set}
+use Rattle.std.specs.Prelude.{All, IsSorted, ◌==◌, replicate}
+use Rattle.std.specs.List.{range_with_len}
+use Rattle.std.proofs.lemmas.Bool.Decides.{eqb_tells}
+use Rattle.std.proofs.lemmas.List.{append-nil, get_or-replicate, length-replicate, get_or-set_same, get_or-set_other}
+use Rattle.std.proofs.lemmas.List.Elements.{All-nil, All-cons}
 use Rattle.std.proofs.lemmas.List.Sorted.{IsPermutation-refl}
 use Rattle.hop_base.specs.declared.part.Part.{Part}
 use Rattle.hop_base.specs.declared.value.Pair.{Pair}
 use Rattle.hop_base.specs.Meaning.{Meaning}
-use Rattle.hop_base.specs.Order.{pair_cmp}
-use Rattle.hop_base.specs.Sorted.{ord}
+use Rattle.hop_base.specs.Order.{IsValidPair, pair_cmp}
 use Rattle.hop_laws.specs.Blocking.{part_pairs}
 use Rattle.hop_laws.specs.Laws.{IsLawful}
-use Rattle.hop_laws.specs.Stands.{StandsFor, combined_pairs, pairs_at}
+use Rattle.hop_laws.specs.Partition.{partition_of, of_partition}
+use Rattle.hop_laws.specs.Stands.{StandsFor, combined_pairs}
 use Rattle.hop_laws.proofs.Emitted.{valid_part}
 use Rattle.hop_laws.proofs.StandsLaws.{stands_itself, stands_combined}
-use Rattle.hop_laws.proofs.Values.{each_permuted}
-use Rattle.hop_run.specs.Runs.{RunValue, RunStands, combined_run}
-use Rattle.hop_run.proofs.MergeLaws.{ord_permutes}
+use Rattle.hop_run.specs.Runs.{RunStands, combined_run}
+use Rattle.hop_run.specs.Scattering.{Scatters, Keeps, combined_list}
 
--- the pairs in order are combined to the same
-pub combined_in_order : (meaning : Meaning) (records : List (List ℕ)) (n r : ℕ) (part : Part) (p : ℕ) (made run : RunValue) → made.sheet ≡ ord pair_cmp (part_pairs meaning records n p r part) → made.parts ≡ part ∷ [] → run.sheet ≡ combined_pairs meaning.combined made.sheet → run.parts ≡ made.parts → run ≡ combined_run meaning records n r part p
-combined_in_order meaning records n r part p made run s q t u =
-    let pairs : List Pair = part_pairs meaning records n p r part in
-    let sheet : run.sheet ≡ combined_pairs meaning.combined pairs =
-    t ∙ ap (combined_pairs meaning.combined) s ∙ sym (each_permuted (λ k vs. pairs_at k (meaning.combined k vs)) pairs (ord pair_cmp pairs) (ord_permutes pairs)) in
-    ap (λ ps. record { sheet = ps; parts = run.parts }) sheet ∙ ap (λ ps. record { sheet = combined_pairs meaning.combined pairs; parts = ps }) (u ∙ q)
+-- ---- the lists of the partitions
+
+one_of : (p r : ℕ) (pair : Pair) (b : Bool) → (partition_of pair.key r == p) ≡ b → of_partition p r (pair ∷ []) ≡ cond b (pair ∷ []) []
+one_of p r pair b e = ap (λ t. cond t (pair ∷ []) []) e
+
+-- one more pair of one partition
+pub scattered_one : (old new : List (List Pair)) (list : List Pair) (q : ℕ) (pair : Pair) → q < length old → q ≡ partition_of pair.key (length old) → new ≡ set old q list → list ≡ get_or old q [] ++ pair ∷ [] → Scatters old (pair ∷ []) new
+scattered_one old new list q pair lt e s l = record { same = ap length s ∙ length-set old q list; each = λ p below. at p (eqb_tells q p) }
+  where
+    at : (p : ℕ) → (((q == p) ≡ true) × (q ≡ p)) ⊎ (((q == p) ≡ false) × (q ≢ p)) → get_or new p [] ≡ get_or old p [] ++ of_partition p (length old) (pair ∷ [])
+    at p (inl (test, is)) =
+        let now : get_or new p [] ≡ list = ap (λ ls. get_or ls p []) s ∙ ap (λ i. get_or (set old q list) i []) (sym is) ∙ get_or-set_same old q list [] lt in
+        let some : of_partition p (length old) (pair ∷ []) ≡ pair ∷ [] = one_of p (length old) pair true (ap (λ n. n == p) (sym e) ∙ test) in
+        now ∙ l ∙ ap (λ i. get_or old i [] ++ pair ∷ []) is ∙ ap (λ qs. get_or old p [] ++ qs) (sym some)
+    at p (inr (test, other)) =
+        let apart : p ≢ q = λ is. other (sym is) in
+        let now : get_or new p [] ≡ get_or old p [] = ap (λ ls. get_or ls p []) s ∙ get_or-set_other old q p list [] apart in
+        let none : of_partition p (length old) (pair ∷ []) ≡ [] = one_of p (length old) pair false (ap (λ n. n == p) (sym e) ∙ test) in
+        now ∙ sym (append-nil (get_or old p [])) ∙ ap (λ qs. get_or old p [] ++ qs) (sym none)
+
+-- one more pair, which is of the partition that is kept
+pub kept_one : (p r : ℕ) (old new : List Pair) (pair : Pair) → (partition_of pair.key r == p) ≡ true → new ≡ old ++ pair ∷ [] → Keeps p r old (pair ∷ []) p r new
+kept_one p r old new pair e h = record { same_p = refl; same_r = refl; more = h ∙ ap (λ ps. old ++ ps) (sym (one_of p r pair true e)) }
+
+-- or is not
+pub kept_none : (p r : ℕ) (old : List Pair) (pair : Pair) → (partition_of pair.key r == p) ≡ false → Keeps p r old (pair ∷ []) p r old
+kept_none p r old pair e = record { same_p = refl; same_r = refl; more = sym (append-nil old) ∙ ap (λ ps. old ++ ps) (sym (one_of p r pair false e)) }
+
+-- ---- the runs of the lists
+
+-- all pairs went to empty lists
+pub scattered_lists : (old lists : List (List Pair)) (r : ℕ) (pairs : List Pair) → old ≡ replicate r [] → Scatters old pairs lists → (length lists ≡ r) × ((p : ℕ) → p < r → get_or lists p [] ≡ of_partition p r pairs)
+scattered_lists old lists r pairs e h =
+    let n : length old ≡ r = ap length e ∙ length-replicate r [] in (
+      h.same ∙ n,
+      λ p below.
+          h.each p (omega (arith, n))
+          ∙ ap (λ m. get_or old p [] ++ of_partition p m pairs) n
+          ∙ ap (λ ps. ps ++ of_partition p r pairs) (ap (λ ls. get_or ls p []) e ∙ get_or-replicate r p [] [] below),
+    )
+
+-- the pairs of one partition went to an empty list
+pub kept_all : (p r p0 r0 p' r' : ℕ) (old pairs new : List Pair) → old ≡ [] → p0 ≡ p → r0 ≡ r → Keeps p0 r0 old pairs p' r' new → new ≡ of_partition p r pairs
+kept_all p r p0 r0 p' r' old pairs new e f g h =
+    h.more ∙ ap (λ ps. ps ++ of_partition p0 r0 pairs) e ∙ ap (λ i. of_partition i r0 pairs) f ∙ ap (λ i. of_partition p i pairs) g
+
+-- a builder of no pairs took some in order
+pub sorted_given : (old new pairs : List Pair) → old ≡ [] → new ≡ old ++ pairs → IsSorted pair_cmp pairs → IsSorted pair_cmp new
+sorted_given old new pairs e h sorted = subst (λ (ps : List Pair). IsSorted pair_cmp ps) (sym (h ∙ ap (λ ps. ps ++ pairs) e)) sorted
+
+map_by_index : {X Y : Type 0} (f : X → Y) (g : ℕ → Y) (d : X) (xs : List X) (a : ℕ) → ((i : ℕ) → i < length xs → f (get_or xs i d) ≡ g (a + i)) → map f xs ≡ map g (range_with_len a (length xs))
+map_by_index f g d [] a h = refl
+map_by_index f g d (x ∷ xs) a h =
+    let z : a + 0 ≡ a = omega arith in
+    ap (λ y. y ∷ map f xs) (h 0 (omega arith) ∙ ap g z)
+    ∙ ap (λ ys. g a ∷ ys) (map_by_index f g d xs (a + 1) (λ i lt. let s : a + suc i ≡ a + 1 + i = omega arith in h (suc i) (omega arith) ∙ ap g s))
+
+-- the runs of the lists are those of the partitions
+pub runs_scattered : (meaning : Meaning) (records : List (List ℕ)) (n r : ℕ) (part : Part) (lists : List (List Pair)) → (length lists ≡ r) × ((p : ℕ) → p < r → get_or lists p [] ≡ part_pairs meaning records n p r part) → map (combined_list meaning part) lists ≡ map (combined_run meaning records n r part) (range_with_len 0 r)
+runs_scattered meaning records n r part lists h =
+    map_by_index (combined_list meaning part) (combined_run meaning records n r part) [] lists 0
+    (λ p below. let z : p ≡ 0 + p = omega arith in ap (combined_list meaning part) (h.1 p (omega (arith, h.0))) ∙ ap (combined_run meaning records n r part) z)
+    ∙ ap (λ m. map (combined_run meaning records n r part) (range_with_len 0 m)) h.0
+
+all_by_index : {X : Type 0} (P : X → Type 0) (d : X) (xs : List X) → ((i : ℕ) → i < length xs → P (get_or xs i d)) → All P xs
+all_by_index P d [] h = All-nil P
+all_by_index P d (x ∷ xs) h = All-cons P x xs (h 0 (omega arith)) (all_by_index P d xs (λ i lt. h (suc i) (omega arith)))
+
+-- the pairs of each list are within the limits
+pub valid_lists : (meaning : Meaning) (records : List (List ℕ)) (n r : ℕ) (part : Part) (lists : List (List Pair)) → IsLawful meaning → All (λ line. length line ≤ 131050) records → (length lists ≡ r) × ((p : ℕ) → p < r → get_or lists p [] ≡ part_pairs meaning records n p r part) → All (λ ps. All IsValidPair ps) lists
+valid_lists meaning records n r part lists laws short h =
+    all_by_index (λ (ps : List Pair). All IsValidPair ps) [] lists
+    (λ p below. subst (λ (ps : List Pair). All IsValidPair ps) (sym (h.1 p (omega (arith, h.0)))) (valid_part meaning laws records short n p r part))
 
 pub combined_stands : (meaning : Meaning) (records : List (List ℕ)) (n r : ℕ) (part : Part) (p : ℕ) → IsLawful meaning → All (λ line. length line ≤ 131050) records → RunStands meaning.reduced (part_pairs meaning records n p r) (combined_run meaning records n r part p)
 combined_stands meaning records n r part p laws short =

@@ -1,8 +1,8 @@
 //! What is left of a sheet that is being merged.
-ghost use Rattle.std.specs.Prelude.{◌≡◌, ◌∷◌, ◌+◌, ◌<◌, [], length, drop, slice_get, Some, MatchOption, IfSome, IsSorted};
+ghost use Rattle.std.specs.Prelude.{◌≡◌, ◌∷◌, ◌++◌, ◌+◌, ◌<◌, [], length, drop, slice_get, Some, MatchOption, IfSome, OnOk, IsSorted};
 ghost use Rattle.hop_base.specs.Order.{pair_cmp};
 
-use hop_base::{FlatSheet, PairView};
+use hop_base::{FlatSheet, FlatSheetBuilder, NoMemory, PairView};
 use std::cmp::Ordering;
 use std::marker::Model;
 
@@ -11,11 +11,11 @@ use std::marker::Model;
 pub(crate) struct Head<'a> {
     sheet: &'a FlatSheet,
     at: u64,
-    pub(crate) pair: PairView<'a>,
+    pair: PairView<'a>,
 }
 
 impl<'a> Model for Head<'a> {
-    ghost use Rattle.std.specs.Prelude.{◌≡◌, ◌+◌, ◌<◌, drop, length, IsSorted};
+    ghost use Rattle.std.specs.Prelude.{◌≡◌, ◌+◌, ◌<◌, drop, length, slice_get, Some, IsSorted};
     ghost use Rattle.hop_base.specs.Order.{pair_cmp};
     ghost use Rattle.hop_run.specs.Heads.{HeadValue};
 
@@ -23,7 +23,7 @@ impl<'a> Model for Head<'a> {
 
     ghost view = { λ h. record { first = h.pair; later = drop (h.at + 1) h.sheet.now } };
 
-    ghost invariant = { λ h. (h.at < length h.sheet.now) × IsSorted pair_cmp h.sheet.now };
+    ghost invariant = { λ h. (h.at < length h.sheet.now) × ((slice_get h.sheet.now h.at ≡ Some h.pair) × IsSorted pair_cmp h.sheet.now) };
 }
 
 impl<'a> Head<'a> {
@@ -38,6 +38,13 @@ impl<'a> Head<'a> {
         sheet.known();
         let pair = sheet.pair(at);
         Head { sheet, at, pair }
+    }
+
+    // The first pair goes to the end of a builder.
+    pub(crate) fn push_to(&self, to: &mut FlatSheetBuilder) -> Result<(), NoMemory>
+        ensures { OnOk result (to.new ≡ to.old ++ self.now.first ∷ []) }
+    {
+        to.push_from(self.sheet, self.at)
     }
 
     // The pairs behind the first one, if there are any.

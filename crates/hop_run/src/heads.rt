@@ -78,7 +78,7 @@ impl<'a> Heads<'a> {
         match self.heap.pop() {
             None => Ok(false),
             Some(head) => {
-                to.push_view(&head.pair)?;
+                head.push_to(to)?;
                 if let Some(next) = head.next() {
                     self.heap.push(next)?;
                 }

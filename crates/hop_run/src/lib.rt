@@ -8,6 +8,7 @@ mod mapping;
 mod merging;
 pub mod message;
 pub mod run;
+mod scattered;
 
 pub use heads::Heads;
 pub use message::{Message, Parcel};

@@ -1,13 +1,17 @@
 //! The runs of a part in all partitions.
-ghost use Rattle.std.specs.Prelude.{◌≡◌, ◌<◌, ◌≤◌, ℕ, ◌∷◌, [], IfOk, map, slice_index_or};
+ghost use Rattle.std.specs.Prelude.{◌≡◌, ◌<◌, ◌≤◌, ℕ, All, IfOk, map, slice_index_or};
 ghost use Rattle.std.specs.List.{range_with_len};
+ghost use Rattle.hop_base.specs.Order.{IsValidPair};
 ghost use Rattle.hop_laws.specs.Blocking.{part_pairs};
 ghost use Rattle.hop_records.specs.Records.{splits_of, len_of};
 ghost use Rattle.hop_run.specs.Runs.{combined_run};
+ghost use Rattle.hop_run.specs.Scattering.{combined_list};
 
+use crate::mapping::map_part;
 use crate::run::{Run, Runs};
-use hop_base::{Listed, NoMemory, Part};
-use hop_laws::Job;
+use crate::scattered::Scattered;
+use hop_base::{FlatSheetBuilder, Listed, NoMemory, Part};
+use hop_laws::{Gathered, Job};
 use hop_records::Book;
 use std::alloc::Global;
 
@@ -34,31 +38,37 @@ impl Run {
         ensures stands { IfOk result (λ runs. (p : ℕ) → p < r → RunStands (J.meaning job.now).reduced (part_pairs (J.meaning job.now) book.now.records book.now.split p r) (slice_index_or runs p empty_run)) }
     {
         let _known = book.records();
-        let mut runs = Listed::new(alloc);
-        for p in 0..r {
-            runs.push(combined(alloc, job, book, part, p, r)?)?;
-        }
+        let mut scattered = Scattered::new(alloc, r)?;
+        map_part(alloc, job, book, part, &mut scattered)?;
+        let runs = combine_lists(alloc, job, scattered.lists, part)?;
         Ok(runs)
     }
 }
 
-// The combined run of a part in partition p of r.
-fn combined<J: Job>(
+// The combined runs of the pairs of each partition.
+fn combine_lists<J: Job>(
     alloc: Global,
     job: &J,
-    book: &Book,
+    lists: Vec<Gathered>,
     part: Part,
-    p: u8,
-    r: u8,
-) -> Result<Run, NoMemory>
-    requires split { part.split < splits_of book.now }
-    requires ordered { part.from ≤ part.to }
-    requires within { part.to ≤ len_of book.now part.split }
-    requires below { p < r }
-    requires few { r ≤ 8 }
-    ensures { IfOk result (λ run. run ≡ combined_run (J.meaning job.now) book.now.records book.now.split r part p) }
+) -> Result<Runs, NoMemory>
+    requires { All (λ ps. All IsValidPair ps) lists.items }
+    ensures { IfOk result (λ runs. runs ≡ map (combined_list (J.meaning job.now) part) lists.items) }
 {
-    let made = Run::make(alloc, job, book, part, p, r)?;
-    let run = Run::combine(alloc, job, &made)?;
-    Ok(run)
+    let mut runs = Listed::new(alloc);
+    for list in lists {
+        runs.push(combined(alloc, job, list, part)?)?;
+    }
+    Ok(runs)
+}
+
+// The combined run of the pairs of a partition.
+fn combined<J: Job>(alloc: Global, job: &J, mut list: Gathered, part: Part) -> Result<Run, NoMemory>
+    requires { All IsValidPair list }
+    ensures { IfOk result (λ run. run ≡ combined_list (J.meaning job.now) part list) }
+{
+    let mut builder = FlatSheetBuilder::new(alloc);
+    list.combined_into(alloc, job, &mut builder)?;
+    let flat = builder.finish()?;
+    Run::of_part(alloc, flat, part)
 }

@@ -15,7 +15,8 @@ ghost use Rattle.hop_records.specs.Records.{splits_of, len_of};
 use crate::heads::Heads;
 use crate::mapping::map_part;
 use crate::merging::merge_sheets;
-use hop_base::{FlatSheet, Listed, NoMemory, PairView, Part, Sheet, Text};
+use crate::scattered::Kept;
+use hop_base::{FlatSheet, FlatSheetBuilder, Listed, NoMemory, PairView, Part, Sheet, Text};
 use hop_laws::{Job, combine_flat, reduce_flat};
 use hop_records::Book;
 use std::alloc::{AllocError, Global};
@@ -79,8 +80,12 @@ impl Run {
         // It stands for its part.
         ensures stands { IfOk result (RunStands (J.meaning job.now).reduced (part_pairs (J.meaning job.now) book.now.records book.now.split p r)) }
     {
-        let pairs = map_part(alloc, job, book, part, p, r)?;
-        let run = Run::of_sheet(alloc, Sheet::from_pairs(pairs), part)?;
+        let mut kept = Kept::new(alloc, p, r);
+        map_part(alloc, job, book, part, &mut kept)?;
+        let mut builder = FlatSheetBuilder::new(alloc);
+        kept.pairs.sorted_into(&mut builder)?;
+        let flat = builder.finish()?;
+        let run = Run::of_part(alloc, flat, part)?;
         Ok(run)
     }
 
@@ -89,6 +94,13 @@ impl Run {
         ensures { IfOk result (λ run. run ≡ record { sheet = sheet; parts = part ∷ [] }) }
     {
         let flat = FlatSheet::from_sheet(alloc, &sheet)?;
+        Run::of_part(alloc, flat, part)
+    }
+
+    // The run of these pairs of one part.
+    pub(crate) fn of_part(alloc: Global, flat: FlatSheet, part: Part) -> Result<Run, NoMemory>
+        ensures { IfOk result (λ run. run ≡ record { sheet = flat; parts = part ∷ [] }) }
+    {
         let mut parts = Vec::new(alloc);
         parts.push(part)?;
         Ok(Run { flat, parts })

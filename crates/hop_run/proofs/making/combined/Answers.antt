@@ -1,6 +1,9 @@
-use Rattle.hop_run.proofs.MakingLaws.{combined_in_order}
+use Rattle.hop_laws.proofs.Combined.{combined_sorted}
+use Rattle.hop_run.proofs.MakingLaws.{sorted_given}
 use Rattle.hop_run.proofs.making.combined.Goals as goal
 
-pub returns : goal.returns
-returns g c =
-    combined_in_order (g.J.Job.meaning c.args.job.now) c.args.book.now.records c.args.book.now.split c.args.r c.args.part c.args.p c.in_ok-made.made c.in_ok-run.run' c.in_ok-made.ensures.sheet c.in_ok-made.ensures.parts c.in_ok-run.ensures.sheet c.in_ok-run.ensures.parts
+-- combined pairs are in order
+pub finish-requires : goal.finish-requires
+finish-requires g c =
+    let meaning = g.J.Job.meaning c.args.job.now in
+    sorted_given _ _ _ c.new-builder.ensures c.in_ok-combined_into.ensures.given (combined_sorted meaning.combined c.args.list (g.met.J.Job.lawful c.args.job.now).combines_well c.requires)
