@@ -6,10 +6,10 @@ ghost use Rattle.hop_base.specs.Fields.{pair_of};
 ghost use Rattle.hop_laws.specs.Stands.{KeepsStanding};
 ghost use Rattle.hop_fold.specs.Gathering.{StandsWith};
 
-use crate::index::{Index, hash};
+use crate::index::Index;
 use crate::two::Two;
 use hop_base::{NoMemory, Text};
-use hop_laws::{Gathered, Job, PairSink};
+use hop_laws::{Gathered, Job, PairSink, key_hash};
 use std::alloc::Global;
 use std::marker::Model;
 
@@ -83,7 +83,7 @@ impl Folded {
         ensures joined { IfOk result (λ is. is ≡ true → StandsWith (J.meaning job.now).reduced self.old (pair_of key.now number [] ∷ []) self.new) }
         ensures not { IfOk result (λ is. is ≡ false → self.new ≡ self.old) }
     {
-        let hash = hash(key);
+        let hash = key_hash(key);
         if let Some(place) = self.index.guess(hash) {
             if let Some(there) = self.pairs.number_at(place, key) {
                 if let Some(both) = self.two.combined(alloc, job, key, there, number)? {

@@ -54,12 +54,3 @@ impl Index {
 fn tag(hash: u64) -> u32 {
     (hash % 0x1_0000_0000) as u32
 }
-
-// A hash of a key. Any function of the key does.
-pub(crate) fn hash(key: &[u8]) -> u64 {
-    let mut hash: u64 = 0;
-    for byte in key {
-        hash = (hash ^ u64::from(*byte)).wrapping_mul(0x0000_0100_0000_01b3);
-    }
-    (hash ^ (hash >> 32)).wrapping_mul(0x9e37_79b9_7f4a_7c15)
-}
