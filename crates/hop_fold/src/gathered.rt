@@ -1,13 +1,15 @@
 //! The pairs of the partitions, gathered while records are mapped.
-ghost use Rattle.std.specs.Prelude.{◌≡◌, ◌≤◌, ◌∷◌, [], ℕ, List, length, replicate, map, IfOk, OnOk};
+ghost use Rattle.std.specs.Prelude.{◌≡◌, ◌≤◌, ◌∷◌, [], ℕ, Bool, true, false, List, length, replicate, map, IfOk, OnOk};
 ghost use Rattle.hop_base.specs.declared.value.Pair.{Pair};
 ghost use Rattle.hop_laws.specs.Groups.{red};
 ghost use Rattle.hop_base.specs.Fields.{pair_of};
 ghost use Rattle.hop_laws.specs.Stands.{KeepsStanding};
 ghost use Rattle.hop_fold.specs.Gathering.{StandsWith};
 
+use crate::index::Index;
+use crate::two::Two;
 use hop_base::{NoMemory, Text};
-use hop_laws::{Gathered, Job, PairSink};
+use hop_laws::{Gathered, Job, PairSink, key_hash};
 use std::alloc::Global;
 use std::marker::Model;
 
@@ -18,6 +20,8 @@ pub(crate) struct Folded {
     pairs: Gathered,
     least: usize,
     limit: usize,
+    index: Index,
+    two: Two,
 }
 
 impl Model for Folded {
@@ -31,18 +35,69 @@ impl Model for Folded {
 
 impl Folded {
     // No pairs. Fewer than `least` are not combined.
-    pub(crate) fn new(alloc: Global, least: usize) -> Folded
-        ensures { result ≡ [] }
+    pub(crate) fn new(alloc: Global, least: usize) -> Result<Folded, NoMemory>
+        ensures { IfOk result (λ made. made ≡ []) }
     {
-        Folded {
+        let index = Index::new(alloc)?;
+        let two = Two::new(alloc)?;
+        Ok(Folded {
             pairs: Gathered::new(alloc),
             least,
             limit: least,
-        }
+            index,
+            two,
+        })
     }
 
-    // One more pair.
+    // One more pair. A number alone is joined to one of its key, where one is found.
     pub(crate) fn add<J: Job>(
+        &mut self,
+        alloc: Global,
+        job: &J,
+        key: &[u8],
+        number: u64,
+        text: &[u8],
+    ) -> Result<(), NoMemory>
+        requires short_key { length key.now ≤ 131071 }
+        requires short_text { length text.now ≤ 131071 }
+        ensures { OnOk result (StandsWith (J.meaning job.now).reduced self.old (pair_of key.now number text.now ∷ []) self.new) }
+    {
+        if text.is_empty() {
+            if self.joins(alloc, job, key, number)? {
+                return Ok(());
+            }
+        }
+        self.append(alloc, job, key, number, text)
+    }
+
+    // One more number, where the index finds one of the key and combine makes one number of both. It tells whether
+    // that is so; if not, the pairs are as before, and the index knows where one more will be.
+    fn joins<J: Job>(
+        &mut self,
+        alloc: Global,
+        job: &J,
+        key: &[u8],
+        number: u64,
+    ) -> Result<bool, NoMemory>
+        requires { length key.now ≤ 131071 }
+        ensures joined { IfOk result (λ is. is ≡ true → StandsWith (J.meaning job.now).reduced self.old (pair_of key.now number [] ∷ []) self.new) }
+        ensures not { IfOk result (λ is. is ≡ false → self.new ≡ self.old) }
+    {
+        let hash = key_hash(key);
+        if let Some(place) = self.index.guess(hash) {
+            if let Some(there) = self.pairs.number_at(place, key) {
+                if let Some(both) = self.two.combined(alloc, job, key, there, number)? {
+                    self.pairs.set_number(place, both);
+                    return Ok(true);
+                }
+            }
+        }
+        self.index.put(hash, self.pairs.len());
+        Ok(false)
+    }
+
+    // One more pair, behind all. They are combined where they have grown to the limit.
+    fn append<J: Job>(
         &mut self,
         alloc: Global,
         job: &J,

@@ -3,7 +3,9 @@
 
 pub mod blocking;
 mod gathered;
+mod index;
 mod lines;
 mod lists;
+mod two;
 
 pub use blocking::{block, block_lines};

@@ -59,7 +59,8 @@ fn empty_lists(alloc: Global, r: u8) -> Result<Vec<Folded>, NoMemory>
 {
     let mut lists = Vec::new(alloc);
     for _p in 0..r {
-        lists.push(Folded::new(alloc, LEAST / r as usize))?;
+        let list = Folded::new(alloc, LEAST / r as usize)?;
+        lists.push(list)?;
     }
     Ok(lists)
 }

@@ -157,6 +157,37 @@ two_keys arena x y hx hy apart = at (cases_Bool (bytes_eq (key_in arena x) (key_
     at (inl same) = absurd (apart (hx.head ∙ ap head_of ((bytes_eq-Decides (key_in arena x) (key_in arena y)).0 same) ∙ sym hy.head))
     at (inr other) = sym other
 
+one_head : (x y : Head) → x.first ≡ y.first → x.second ≡ y.second → x ≡ y
+one_head x y f s = ap (λ n. record { first = n; second = x.second }) f ∙ ap (λ n. record { first = y.first; second = n }) s
+
+-- an entry of a key's head has the key
+pub key_known : (arena : List ℕ) (e : Entry) (key : List ℕ) (head : Head) → IsEntry arena e → AreBytes key → head ≡ head_of key → e.head.first ≡ head.first → e.head.second ≡ head.second → length key ≤ 15 → true ≡ bytes_eq (key_in arena e) key
+key_known arena e key head h bytes eh ef es short =
+    let one : head_of (key_in arena e) ≡ head_of key = sym h.head ∙ one_head e.head head ef es ∙ eh in
+    let same : key ≡ key_in arena e = heads_same key (key_in arena e) bytes h.bytes (ap (head_cmp (head_of key)) one ∙ tied_itself head_total (head_of key)) short in
+    sym ((bytes_eq-Decides (key_in arena e) key).1 (sym same))
+
+-- or its key stands in the arena
+pub key_there : (arena : List ℕ) (e : Entry) (key : List ℕ) (head : Head) → IsEntry arena e → AreBytes key → head ≡ head_of key → e.head.first ≡ head.first → e.head.second ≡ head.second → 15 < length key → stored_key arena e ≡ key_in arena e
+key_there arena e key head h bytes eh ef es long = at (leb_tells (length (key_in arena e)) 15)
+  where
+    one : head_of key ≡ head_of (key_in arena e)
+    one = sym (sym h.head ∙ one_head e.head head ef es ∙ eh)
+
+    at : ((nat_le (length (key_in arena e)) 15 ≡ true) × (length (key_in arena e) ≤ 15)) ⊎ ((nat_le (length (key_in arena e)) 15 ≡ false) × (15 < length (key_in arena e))) → stored_key arena e ≡ key_in arena e
+    at (inl short) =
+        let same : key_in arena e ≡ key = heads_same (key_in arena e) key h.bytes bytes (ap (head_cmp (head_of (key_in arena e))) one ∙ tied_itself head_total (head_of (key_in arena e))) short.1 in
+        absurd (omega (arith, long, short.1, ap {B = ℕ} length same))
+    at (inr long_too) = sym (stored_whole arena e h long_too.1)
+
+-- two keys where the heads are two
+pub key_other : (arena : List ℕ) (e : Entry) (key : List ℕ) → IsEntry arena e → e.head ≢ head_of key → false ≡ bytes_eq (key_in arena e) key
+key_other arena e key h apart = at (cases_Bool (bytes_eq (key_in arena e) key))
+  where
+    at : (bytes_eq (key_in arena e) key ≡ true) ⊎ (bytes_eq (key_in arena e) key ≡ false) → false ≡ bytes_eq (key_in arena e) key
+    at (inl same) = absurd (apart (h.head ∙ ap head_of ((bytes_eq-Decides (key_in arena e) key).0 same)))
+    at (inr other) = sym other
+
 -- ---- an arena that grows
 
 pub record IsKept (arena grown : List ℕ) (e : Entry) : Type 0 where

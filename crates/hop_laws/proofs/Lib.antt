@@ -7,5 +7,6 @@ pub mod GroupLaws
 pub mod HeadLaws
 pub mod Keys
 pub mod Lines
+pub mod NumberLaws
 pub mod StandsLaws
 pub mod Values

@@ -1,5 +1,5 @@
 -- What merging and combining do to what a sheet stands for.
-use Rattle.std.proofs.Common.{◌≡◌, ℕ, ◌<◌, Bool, true, false, cond, ◌||◌, List, [], ◌∷◌, ◌++◌, length, map, refl, sym, ap, ◌∙◌, subst, inl, inr, arith}
+use Rattle.std.proofs.Common.{◌≡◌, ℕ, ◌<◌, Bool, true, false, cond, ◌||◌, List, [], ◌∷◌, ◌++◌, length, map, refl, sym, ap, ◌∙◌, subst, inl, inr, arith, is_gt}
 use Rattle.std.specs.Prelude.{All, filter}
 use Rattle.std.specs.List.{list_any, flat_map}
 use Rattle.std.specs.Str.{bytes_eq}
@@ -7,10 +7,11 @@ use Rattle.std.specs.List.Sorted.{IsPermutation}
 use Rattle.std.proofs.lemmas.Slice.Eq.{bytes_eq-Decides}
 use Rattle.std.proofs.lemmas.List.{append-nil}
 use Rattle.std.proofs.lemmas.List.Elements.{All-append, All-map, All-filter, All-weaker, All-nil}
+use Rattle.std.proofs.lemmas.List.Sorted.{IsPermutation-refl}
 use Rattle.std.proofs.lemmas.Bool.{true≢false, false≢true, cases_Bool}
 use Rattle.hop_base.specs.declared.value.Val.{Val}
 use Rattle.hop_base.specs.declared.value.Pair.{Pair}
-use Rattle.hop_base.specs.Order.{val_cmp, IsValid, IsValidPair}
+use Rattle.hop_base.specs.Order.{key_cmp, val_cmp, IsValid, IsValidPair}
 use Rattle.hop_base.specs.Sorted.{ord}
 use Rattle.hop_base.proofs.Sorted.{count, count-append, SameItems, ord_same}
 use Rattle.hop_base.proofs.OrderLaws.{val_total, val_exact}
@@ -169,3 +170,17 @@ stands_through reduce ps qs rs h k = record {
   same_keys = h.same_keys ∙ k.same_keys;
   same_reduce = λ key ws v. h.same_reduce key ws v ∙ k.same_reduce key ws v;
 }
+
+-- one value stands for two of its key, if they are combined to it
+pub stands_two : (combine : List ℕ → List Val → List Val) (reduce : List ℕ → List Val → List ℕ) (key : List ℕ) (v w u : Val) → AlwaysCombinesWell combine → ReducesAlike combine reduce → All IsValidPair (pairs_at key (v ∷ w ∷ [])) → combine key (ord val_cmp (v ∷ w ∷ [])) ≡ u ∷ [] → StandsFor reduce (pairs_at key (u ∷ [])) (pairs_at key (v ∷ w ∷ []))
+stands_two combine reduce key v w u well alike valid e =
+    let a : List Pair = pairs_at key (v ∷ w ∷ []) in
+    let keys : keys_of a ≡ key ∷ [] = ap (λ b. cond b (key ∷ []) (cond (is_gt (key_cmp key key)) (key ∷ key ∷ []) (key ∷ key ∷ []))) (key_itself key) in
+    let one : combined_pairs combine a ≡ pairs_at key (u ∷ []) =
+    ap (λ ks. flat_map (λ k. pairs_at k (combine k (ord val_cmp (values_of k a)))) ks) keys
+    ∙ append-nil (pairs_at key (combine key (ord val_cmp (values_of key a))))
+    ∙ ap (λ vs. pairs_at key (combine key (ord val_cmp vs))) (values_here key (v ∷ w ∷ []))
+    ∙ ap (pairs_at key) e in
+    stands_combined combine reduce a (pairs_at key (u ∷ [])) a well alike valid
+    (subst (λ (qs : List Pair). IsPermutation (combined_pairs combine a) qs) one (IsPermutation-refl (combined_pairs combine a)))
+    (stands_itself reduce a)

@@ -4,5 +4,6 @@ pub mod Entries
 pub mod Groups
 pub mod Heads
 pub mod Laws
+pub mod Numbers
 pub mod Partition
 pub mod Stands

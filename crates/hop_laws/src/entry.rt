@@ -1,6 +1,7 @@
 //! Flat pairs.
-ghost use Rattle.std.specs.Prelude.{◌≡◌, ◌≤◌, length, take, drop, IfOk, OnOk, OnErr, IsPermutation, IsSorted};
+ghost use Rattle.std.specs.Prelude.{◌≡◌, ◌<◌, ◌≤◌, ◌+◌, ◌++◌, length, take, drop, IfOk, OnOk, OnErr, IsPermutation, IsSorted};
 ghost use Rattle.std.specs.Str.{bytes_eq};
+ghost use Rattle.std.specs.List.{AllByRecursion};
 ghost use Rattle.hop_laws.specs.Entries.{stored_key as stored_key_of, text_in, key_in, pair_in, IsEntry, entry_cmp, value_cmp, stored_bytes};
 ghost use Rattle.hop_laws.specs.Heads.{head_bytes};
 ghost use Rattle.hop_base.specs.Fields.{pair_of};
@@ -36,9 +37,7 @@ pub(crate) fn append(
 {
     let stored = stored_part(key);
     let at = arena.len();
-    arena.reserve(stored.len() + text.len())?;
-    arena.extend_from_slice(stored)?;
-    arena.extend_from_slice(text)?;
+    extend(arena, stored, text)?;
     Ok(Entry {
         head: Head::of(key),
         number,
@@ -46,6 +45,21 @@ pub(crate) fn append(
         stored_len: stored.len() as u32,
         text_len: text.len() as u32,
     })
+}
+
+// Appends both. After `NoMemory` the arena is as before.
+fn extend(arena: &mut Vec<u8>, stored: &[u8], text: &[u8]) -> Result<(), NoMemory>
+    requires { length stored.now + length text.now ≤ 262142 }
+    ensures ok { OnOk result (arena.new.items ≡ (arena.old.items ++ stored.now) ++ text.now) }
+    ensures err { OnErr result (arena.new.items ≡ arena.old.items) }
+{
+    if stored.is_empty() && text.is_empty() {
+        return Ok(());
+    }
+    arena.reserve(stored.len() + text.len())?;
+    arena.extend_from_slice(stored)?;
+    arena.extend_from_slice(text)?;
+    Ok(())
 }
 
 // What of a key stands in the arena: all of a long one.
@@ -92,6 +106,25 @@ pub(crate) fn is_same_key(arena: &[u8], x: &Entry, y: &Entry) -> bool
         return false;
     }
     stored_key(arena, x) == stored_key(arena, y)
+}
+
+// Whether an entry has this key.
+pub(crate) fn has_key(arena: &[u8], entry: &Entry, key: &[u8]) -> bool
+    requires entry { IsEntry arena.now entry.now }
+    requires bytes { AllByRecursion (λ b. b < 256) key.now }
+    ensures { result ≡ bytes_eq (key_in arena.now entry.now) key.now }
+{
+    let head = Head::of(key);
+    if entry.head.first != head.first {
+        return false;
+    }
+    if entry.head.second != head.second {
+        return false;
+    }
+    if key.len() <= 15 {
+        return true;
+    }
+    stored_key(arena, entry) == key
 }
 
 // The key, given the bytes of the head.

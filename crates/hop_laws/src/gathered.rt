@@ -1,12 +1,13 @@
 //! Pairs that are gathered, to be put in order.
-ghost use Rattle.std.specs.Prelude.{◌≡◌, ◌≤◌, ◌++◌, ◌∷◌, [], length, IfOk, OnOk, OnErr, All, IsPermutation};
+ghost use Rattle.std.specs.Prelude.{◌≡◌, ◌<◌, ◌≤◌, ◌++◌, ◌∷◌, [], length, IfOk, IfSome, OnOk, OnErr, All, IsPermutation};
 ghost use Rattle.hop_base.specs.Order.{pair_cmp, IsValidPair};
 ghost use Rattle.hop_base.specs.Sorted.{ord};
 ghost use Rattle.hop_laws.specs.Groups.{red};
 ghost use Rattle.hop_base.specs.Fields.{pair_of};
+ghost use Rattle.hop_laws.specs.Numbers.{IsAt, renumbered};
 ghost use Rattle.hop_laws.specs.Stands.{combined_pairs};
 
-use crate::entry::{Entry, append, is_same_key, sort};
+use crate::entry::{Entry, append, has_key, is_same_key, sort};
 use crate::groups_in::{combine_entries, give_entries, reduce_entries};
 use crate::job::Job;
 use crate::sink::PairSink;
@@ -58,6 +59,29 @@ impl Gathered {
     {
         self.entries.clear();
         self.arena.clear();
+    }
+
+    /// The number of pair `k`, if there is one, and it has this key and no text.
+    pub fn number_at(&self, k: usize, key: &[u8]) -> Option<u64>
+        ensures { IfSome result (λ n. IsAt self.now k (pair_of key.now n [])) }
+    {
+        if k < self.entries.len() {
+            let entry = &self.entries[k];
+            if entry.text_len == 0 && has_key(&self.arena, entry, key) {
+                return Some(entry.number);
+            }
+        }
+        None
+    }
+
+    /// Gives pair `k` another number.
+    pub fn set_number(&mut self, k: usize, number: u64)
+        requires { k < length self.now }
+        ensures exact { self.new ≡ renumbered self.old k number }
+        ensures valid { All IsValidPair self.old }
+    {
+        let entry = &mut self.entries[k];
+        entry.number = number;
     }
 
     /// Whether at most a quarter of the pairs have the key of the pair before them. Where they are in order,

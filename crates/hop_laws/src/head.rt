@@ -39,12 +39,21 @@ fn word(bytes: &[u8]) -> u64
     requires { length bytes.now ≤ 8 }
     ensures { result ≡ spelled_bytes 0 (padded 8 bytes.now) }
 {
-    let mut number: u64 = 0;
-    for byte in bytes {
-        number = 256 * number + u64::from(*byte);
+    match bytes.len() {
+        0 => 0,
+        1 => u64::from_be_bytes([bytes[0], 0, 0, 0, 0, 0, 0, 0]),
+        2 => u64::from_be_bytes([bytes[0], bytes[1], 0, 0, 0, 0, 0, 0]),
+        3 => u64::from_be_bytes([bytes[0], bytes[1], bytes[2], 0, 0, 0, 0, 0]),
+        4 => u64::from_be_bytes([bytes[0], bytes[1], bytes[2], bytes[3], 0, 0, 0, 0]),
+        5 => u64::from_be_bytes([bytes[0], bytes[1], bytes[2], bytes[3], bytes[4], 0, 0, 0]),
+        6 => u64::from_be_bytes([
+            bytes[0], bytes[1], bytes[2], bytes[3], bytes[4], bytes[5], 0, 0,
+        ]),
+        7 => u64::from_be_bytes([
+            bytes[0], bytes[1], bytes[2], bytes[3], bytes[4], bytes[5], bytes[6], 0,
+        ]),
+        _ => u64::from_be_bytes([
+            bytes[0], bytes[1], bytes[2], bytes[3], bytes[4], bytes[5], bytes[6], bytes[7],
+        ]),
     }
-    for _k in bytes.len()..8 {
-        number *= 256;
-    }
-    number
 }

@@ -6,6 +6,7 @@ mod entry;
 pub mod flat_groups;
 pub mod gathered;
 mod groups_in;
+pub mod hashes;
 mod head;
 pub mod job;
 pub mod partitions;
@@ -13,6 +14,7 @@ pub mod sink;
 
 pub use flat_groups::{combine_flat, reduce_flat};
 pub use gathered::Gathered;
+pub use hashes::key_hash;
 pub use job::Job;
 pub use partitions::partition;
 pub use sink::PairSink;

@@ -11,6 +11,9 @@ pub fn partition(key: &[u8], r: u8) -> u8
     ensures value { result ≡ partition_of key.now r }
     ensures below { result < r }
 {
+    if r == 1 {
+        return 0;
+    }
     let mut hash: u64 = 0;
     for byte in key {
         hash = (31 * hash + u64::from(*byte)) % 0x1_0000_0000;

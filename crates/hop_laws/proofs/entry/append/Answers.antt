@@ -4,13 +4,13 @@ use Rattle.hop_laws.proofs.EntryLaws.{IsMade, made}
 use Rattle.hop_laws.proofs.HeadLaws.{bytes_by_index}
 use Rattle.hop_laws.proofs.entry.append.Goals as goal
 
-new_entry : (c : goal.After-of) → IsMade c.extend_from_slice-2.new.self.items c.args.key.now c.args.number c.args.text.now (record { head = c.of.result; number = c.args.number; at = c.len-at.result; stored_len = length c.stored_part-stored.result.now; text_len = length c.args.text.now })
+new_entry : (c : goal.After-of) → IsMade c.extend.new.arena.items c.args.key.now c.args.number c.args.text.now (record { head = c.of.result; number = c.args.number; at = c.len-at.result; stored_len = length c.stored_part-stored.result.now; text_len = length c.args.text.now })
 new_entry c =
-    let grown : List ℕ = c.extend_from_slice-2.new.self.items in
+    let grown : List ℕ = c.extend.new.arena.items in
     let stored : List ℕ = c.stored_part-stored.result.now in
     subst (λ (h : Head). IsMade grown c.args.key.now c.args.number c.args.text.now (record { head = h; number = c.args.number; at = c.len-at.result; stored_len = length stored; text_len = length c.args.text.now })) (sym c.of.ensures)
     (made c.args.arena.now.items c.args.key.now c.args.text.now stored grown c.args.number c.len-at.result (omega arith) c.stored_part-stored.ensures
-    (c.in_ok-extend_from_slice-2.ensures.items ∙ ap (λ bs. bs ++ c.args.text.now) (c.in_ok-extend_from_slice.ensures.items ∙ ap (λ bs. bs ++ stored) c.in_ok-reserve.ensures.items))
+    c.in_ok-extend.ensures.ok
     (bytes_by_index c.args.key.now (λ i. omega (arith, c.type_inv.key i))) c.requires.short_key c.requires.short_text (omega arith))
 
 pub returns-clause-entry : goal.returns-clause-entry

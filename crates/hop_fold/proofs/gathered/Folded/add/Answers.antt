@@ -1,17 +1,12 @@
-use Rattle.std.proofs.Common.{◌++◌, [], ◌∷◌, ap, ◌∙◌, arith}
+use Rattle.std.proofs.Common.{◌≡◌, [], ◌∷◌, List, ℕ, length, subst, sym, ◌∙◌}
+use Rattle.std.proofs.lemmas.Bool.{eqb-true}
+use Rattle.std.proofs.lemmas.List.{nil_from_length}
 use Rattle.hop_base.specs.declared.value.Pair.{Pair}
 use Rattle.hop_base.specs.Fields.{pair_of}
-use Rattle.hop_fold.proofs.Standing.{added}
+use Rattle.hop_fold.specs.Gathering.{StandsWith}
 use Rattle.hop_fold.proofs.gathered.Folded.add.Goals as goal
 
-pub returns-in_ok-shrink : goal.returns-in_ok-shrink
-returns-in_ok-shrink g c =
-    let pair : Pair = pair_of c.args.key.now c.args.number c.args.text.now in
-    added (g.J.Job.meaning c.args.job.now).reduced c.args.self.now c.take.new.self c.shrink.new.self c.args.key.now c.args.text.now c.args.number c.requires.short_key c.requires.short_text (omega arith)
-    (c.in_ok-take.ensures.ok ∙ ap (λ ps. ps ++ pair ∷ []) c.self.view_is) c.in_ok-shrink.ensures
-
-pub returns-else-len-self : goal.returns-else-len-self
-returns-else-len-self g c =
-    let pair : Pair = pair_of c.args.key.now c.args.number c.args.text.now in
-    added (g.J.Job.meaning c.args.job.now).reduced c.args.self.now c.take.new.self c.take.new.self c.args.key.now c.args.text.now c.args.number c.requires.short_key c.requires.short_text (omega arith)
-    (c.in_ok-take.ensures.ok ∙ ap (λ ps. ps ++ pair ∷ []) c.self.view_is) (λ ps stands. stands)
+pub returns-then-branch : goal.returns-then-branch
+returns-then-branch g c =
+    subst (λ (text : List ℕ). StandsWith (g.J.Job.meaning c.args.job.now).reduced c.args.self.now (pair_of c.args.key.now c.args.number text ∷ []) c.joins.new.self) (sym (nil_from_length c.args.text.now (eqb-true (length c.args.text.now) 0 (sym c.is_empty.ensures ∙ c.if-is_empty.true))))
+    (c.in_ok-joins.ensures.joined c.if-branch.true)
