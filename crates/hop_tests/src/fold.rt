@@ -98,7 +98,8 @@ fn blocks_the_lines_of_texts(rt: HostRuntime) -> Result<(), Fail> {
 #[test]
 fn tells_keys_apart_by_what_follows_their_heads(rt: HostRuntime) -> Result<(), Fail> {
     let alloc = rt.alloc();
-    let input = b"abcdefghijklmnopq a\0 abcdefghijklmno abcdefghijklmn\0 a\0\0 abcdefghijklmn\nabcdefghijklmnop a abcdefghijklmno\0 a\0";
+    let input =
+        b"abcdefghijklmnopq a\0 abcdefghijklmno abcdefghijklmn\0 a\0\0 abcdefghijklmn\nabcdefghijklmnop a abcdefghijklmno\0 a\0";
     let text = blocked(alloc, &Wc, input, 1)?;
     assert_eq!(rt;
         text.as_slice(),

@@ -169,7 +169,10 @@ fn makes_combines_and_reduces(rt: HostRuntime) -> Result<(), Fail> {
 #[test]
 fn bytes_are_the_fields_of_the_pairs(rt: HostRuntime) -> Result<(), Fail> {
     let run = made_of(rt.alloc(), b"a\n", part(0, 1))?;
-    assert_eq!(rt; run.bytes(), b"\0\0\0\x01a\0\0\0\0\0\0\0\x01\0\0\0\0".as_slice());
+    assert_eq!(rt;
+        run.bytes(),
+        b"\0\0\0\x01a\0\0\0\0\0\0\0\x01\0\0\0\0".as_slice()
+    );
     assert_eq!(rt; run.copy()?.bytes(), run.bytes());
     assert_eq!(rt; run.flat().to_sheet()?.as_slice().len(), 1);
     Ok(())
@@ -226,5 +229,36 @@ fn a_parcel_is_a_message(rt: HostRuntime) -> Result<(), Fail> {
     let run = made(alloc, part)?.copy()?;
     let message = Message::Parcel(Parcel { part, run });
     assert!(rt; matches!(message, Message::Parcel(_)));
+    Ok(())
+}
+
+// The combined runs of the two records in two partitions: made at once, and one by one.
+fn made_both_ways(alloc: Global) -> Result<(Runs, Runs), NoMemory> {
+    let Ok(book) = two_records(alloc) else {
+        return Err(NoMemory);
+    };
+    let part = part(0, 2);
+    if part.split >= book.splits() || part.to > book.len(part.split) {
+        return Err(NoMemory);
+    }
+    let at_once = Run::make_all(alloc, &Wc, &book, part, 2)?;
+    let mut one_by_one = Runs::new(alloc);
+    for p in 0..2u8 {
+        let made = Run::make(alloc, &Wc, &book, part, p, 2)?;
+        one_by_one.push(Run::combine(alloc, &Wc, &made)?)?;
+    }
+    Ok((at_once, one_by_one))
+}
+
+#[test]
+fn makes_all_partitions_at_once(rt: HostRuntime) -> Result<(), Fail> {
+    let (at_once, one_by_one) = made_both_ways(rt.alloc())?;
+    let ([a, b], [c, d]) = (at_once.as_slice(), one_by_one.as_slice()) else {
+        return Err(Fail::from("they are not two"));
+    };
+    assert_eq!(rt; shown(rt.alloc(), a)?.as_slice(), b"b2".as_slice());
+    assert_eq!(rt; shown(rt.alloc(), b)?.as_slice(), b"a1".as_slice());
+    assert_eq!(rt; (a.bytes(), a.parts()), (c.bytes(), c.parts()));
+    assert_eq!(rt; (b.bytes(), b.parts()), (d.bytes(), d.parts()));
     Ok(())
 }

@@ -1,6 +1,6 @@
 //! The vector of the format with its variants, and what is read written again.
-use hop_base::Pair;
-use hop_spill::{Spill, SpillFault, decode, encode};
+use hop_base::{FlatSheet, Pair};
+use hop_spill::{Spill, SpillFault, decode, decode_flat, encode, encode_flat};
 use std::alloc::Global;
 use std::test::Fail;
 
@@ -49,6 +49,22 @@ fn reads_the_vector(rt: HostRuntime) -> Result<(), Fail> {
 fn writes_the_vector(rt: HostRuntime) -> Result<(), Fail> {
     let text = encode(rt.alloc(), &decode(rt.alloc(), &VECTOR)?)?;
     assert_eq!(rt; text.as_slice(), VECTOR.as_slice());
+    Ok(())
+}
+
+#[test]
+fn flat_sheets_are_written_alike(rt: HostRuntime) -> Result<(), Fail> {
+    let flat = decode_flat(rt.alloc(), &VECTOR)?;
+    let text = encode_flat(rt.alloc(), &flat)?;
+    assert_eq!(rt; text.as_slice(), VECTOR.as_slice());
+    let spill = decode(rt.alloc(), &VECTOR)?;
+    let ([sheet], [bytes]) = (spill.sheets.as_slice(), flat.sheets.as_slice()) else {
+        return Err(Fail::from("it is not one sheet"));
+    };
+    assert_eq!(rt;
+        FlatSheet::from_sheet(rt.alloc(), sheet)?.bytes(),
+        bytes.bytes()
+    );
     Ok(())
 }
 
