@@ -9,5 +9,5 @@ pub mod message;
 pub mod run;
 
 pub use heads::Heads;
-pub use message::{Message, Parcel};
+pub use message::Parcel;
 pub use run::{Run, Runs};
