@@ -5,7 +5,8 @@ ghost use Rattle.hop_lane.specs.Logs.{key_in};
 
 use hop_inner::{Full, LaneRule, Receiver, Sender};
 use atomic_table::{Play, Seat, Table, TableRule};
-use std::alloc::{AllocError, Global};
+use hop_base::NoMemory;
+use std::alloc::Global;
 use std::collections::{LinkedList, VecDeque};
 use std::marker::{Brand, Model, PhantomData};
 
@@ -77,9 +78,10 @@ fn give_key<T: Drop, K: LaneKey>(notes: &mut Notes<T>)
 }
 
 impl<T: Drop> Notes<T> {
-    fn new(alloc: Global) -> Result<Notes<T>, AllocError>
+    fn new(alloc: Global) -> Result<Notes<T>, NoMemory>
         ghost key: { Key }
-        ensures { IfOk result (λ n. (key_in n.seat.me.0 ≡ key) × (n.seat.me.0.taken ≡ [])) }
+        ensures key { IfOk result (λ n. key_in n.seat.me.0 ≡ key) }
+        ensures taken { IfOk result (λ n. n.seat.me.0.taken ≡ []) }
     {
         let (table, seat) = Table::of_words(alloc, &[0], &())?;
         let mut notes = Notes { table, seat };
@@ -134,11 +136,15 @@ impl<T: Drop, L: LaneRule<T>> Model for PlainLane<T, L> {
 }
 
 impl<T: Drop, L: LaneRule<T>> PlainLane<T, L> {
-    pub fn new(alloc: Global, capacity: u8) -> Result<PlainLane<T, L>, AllocError>
+    /// An empty lane with this key, which stands in proofs alone.
+    pub fn new(alloc: Global, capacity: u8) -> Result<PlainLane<T, L>, NoMemory>
         ghost key: { Key }
         requires some { 0 < capacity }
         requires rule { capacity ≡ L.capacity }
-        ensures { IfOk result (λ l. (l.key ≡ key) × (l.taken ≡ []) × (l.held ≡ []) × (l.fulls ≡ 0) × (l.nones ≡ 0)) }
+        ensures key { IfOk result (λ l. l.key ≡ key) }
+        ensures taken { IfOk result (λ l. l.taken ≡ []) }
+        ensures held { IfOk result (λ l. l.held ≡ []) }
+        ensures counts { IfOk result (λ l. (l.fulls ≡ 0) × (l.nones ≡ 0)) }
     {
         let queue = VecDeque::with_capacity(alloc, capacity as usize)?;
         let notes = Notes::new(alloc)?;
