@@ -128,7 +128,7 @@ module _ (setup : Setup) (name : List ℕ) (calls : List Made) (h : Rule setup c
     pub commit_step : (i a : ℕ) (v : Verdict) → v ≡ verdict_of (x.winner i) a → w < setup.workers → Asks parts (Commit w i a) a0 → Steps true (Commit w i a) v a0 (b0 (Committed i a v))
     commit_step i a v is inside asks = step_of (Committed i a v) (Commit w i a) v (commit_is i a v is) (rule_kept (Committed i a v) (Commit w i a) v (commit_is i a v is) inside asks)
         (subst (λ u. TellsVerdict setup.attempts i a u (verdicts_of (words_after (Committed i a v) x))) (sym is)
-          (verdict_by i a (verdicts_of (words_after (Committed i a v) x)) (x.winner i) refl (λ n. ap (λ y. is_winner y n) (at1-here x.winner i (with_winner (x.winner i) a)))))
+        (verdict_by i a (verdicts_of (words_after (Committed i a v) x)) (x.winner i) refl (λ n. ap (λ y. is_winner y n) (at1-here x.winner i (with_winner (x.winner i) a)))))
 
     -- # A revocation
 

@@ -47,9 +47,9 @@ module _ {T : Type 0} where
         writer = h.writer;
         log = x ∷ h.log;
         each = λ j u e. ⊎_elim
-        (λ (y : (j ≡ id) × (w ≡ u)). subst (IsOlder h.writer (x ∷ h.log) j) y.1 (record { items = ([], sym more); heard = longer x h.log v.heard f.heard; writes = λ _. (y.0 ∙ mine.0, more) }))
-        (λ (y : (j ≢ id) × (get_elem? views j ≡ some u)). let g = h.each j u y.1 in record { items = longer x h.log u.items g.items; heard = longer x h.log u.heard g.heard; writes = λ t. absurd (y.0 ((g.writes t).0 ∙ sym mine.0)) })
-        (at_set views id j w u e);
+            (λ (y : (j ≡ id) × (w ≡ u)). subst (IsOlder h.writer (x ∷ h.log) j) y.1 (record { items = ([], sym more); heard = longer x h.log v.heard f.heard; writes = λ _. (y.0 ∙ mine.0, more) }))
+            (λ (y : (j ≢ id) × (get_elem? views j ≡ some u)). let g = h.each j u y.1 in record { items = longer x h.log u.items g.items; heard = longer x h.log u.heard g.heard; writes = λ t. absurd (y.0 ((g.writes t).0 ∙ sym mine.0)) })
+            (at_set views id j w u e);
       }
 
   pub copies : (views : List (Known T)) (id : ℕ) (v : Known T) → Shares views → get_elem? views id ≡ some v → Shares (set views id v ++ known false v.items [] ∷ [])
@@ -59,9 +59,9 @@ module _ {T : Type 0} where
         writer = h.writer;
         log = h.log;
         each = λ j u e. ⊎_elim
-        (λ (y : get_elem? (set views id v) j ≡ some u). h.each j u (subst (λ (l : List (Known T)). get_elem? l j ≡ some u) (set_again views id v at) y))
-        (λ (y : known false v.items [] ≡ u). subst (IsOlder h.writer h.log j) y (record { items = f.items; heard = (h.log, sym (append-nil h.log)); writes = λ t. cc }))
-        (at_snoc (set views id v) (known false v.items []) u j e);
+            (λ (y : get_elem? (set views id v) j ≡ some u). h.each j u (subst (λ (l : List (Known T)). get_elem? l j ≡ some u) (set_again views id v at) y))
+            (λ (y : known false v.items [] ≡ u). subst (IsOlder h.writer h.log j) y (record { items = f.items; heard = (h.log, sym (append-nil h.log)); writes = λ t. cc }))
+            (at_snoc (set views id v) (known false v.items []) u j e);
       }
 
   pub hears : (views : List (Known T)) (id : ℕ) (v : Known T) (other : ℕ) (w : Known T) → Shares views → get_elem? views id ≡ some v → (other ≡ id → ⊥)
@@ -74,12 +74,12 @@ module _ {T : Type 0} where
         writer = h.writer;
         log = h.log;
         each = λ j u e. ⊎_elim
-        (λ (y : (j ≡ other) × (known false [] [] ≡ u)). subst (IsOlder h.writer h.log j) y.1 (record { items = (h.log, sym (append-nil h.log)); heard = (h.log, sym (append-nil h.log)); writes = λ t. cc }))
-        (λ (y : (j ≢ other) × (get_elem? (set views id both) j ≡ some u)). ⊎_elim
-        (λ (z : (j ≡ id) × (both ≡ u)). subst (IsOlder h.writer h.log j) z.1 (record { items = f.items; heard = g.items; writes = λ t. (z.0 ∙ (f.writes t).0, (f.writes t).1) }))
-        (λ (z : (j ≢ id) × (get_elem? views j ≡ some u)). h.each j u z.1)
-        (at_set views id j both u y.1))
-        (at_set (set views id both) other j (known false [] []) u e);
+            (λ (y : (j ≡ other) × (known false [] [] ≡ u)). subst (IsOlder h.writer h.log j) y.1 (record { items = (h.log, sym (append-nil h.log)); heard = (h.log, sym (append-nil h.log)); writes = λ t. cc }))
+            (λ (y : (j ≢ other) × (get_elem? (set views id both) j ≡ some u)). ⊎_elim
+            (λ (z : (j ≡ id) × (both ≡ u)). subst (IsOlder h.writer h.log j) z.1 (record { items = f.items; heard = g.items; writes = λ t. (z.0 ∙ (f.writes t).0, (f.writes t).1) }))
+            (λ (z : (j ≢ id) × (get_elem? views j ≡ some u)). h.each j u z.1)
+            (at_set views id j both u y.1))
+            (at_set (set views id both) other j (known false [] []) u e);
       }
 
   pub learns : (views : List (Known T)) (id : ℕ) (v : Known T) → v.writes ≡ true → Shares views → get_elem? views id ≡ some v → Ends v.items v.heard

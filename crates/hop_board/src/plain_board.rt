@@ -19,9 +19,20 @@ use std::marker::{Model, PhantomData};
 #[derive(Clone, Copy)]
 pub enum Call {
     Gave(Option<u32>),
-    Drew { split: u32, number: u64 },
-    Committed { split: u32, attempt: u8, verdict: Verdict },
-    Revoked { split: u32, attempt: u8, mask: u16 },
+    Drew {
+        split: u32,
+        number: u64,
+    },
+    Committed {
+        split: u32,
+        attempt: u8,
+        verdict: Verdict,
+    },
+    Revoked {
+        split: u32,
+        attempt: u8,
+        mask: u16,
+    },
 }
 
 /// A call, and whose end made it.
@@ -208,7 +219,11 @@ fn verdict_of(winner: Option<u8>, attempt: u8) -> Verdict
 {
     match winner {
         None => Verdict::Won,
-        Some(b) => if b == attempt { Verdict::Won } else { Verdict::Lost { winner: b } },
+        Some(b) => if b == attempt {
+            Verdict::Won
+        } else {
+            Verdict::Lost { winner: b }
+        },
     }
 }
 

@@ -119,9 +119,7 @@ impl<T: Drop> SharedLog<T> {
         ensures { self.new ≡ record self.old { items = x.now ∷ self.old.items } }
     {
         let SharedLog { table, seat } = self;
-        table
-            .shared
-            .compare_exchange_with::<Adds>(seat, 0, 0, 0, x);
+        table.shared.compare_exchange_with::<Adds>(seat, 0, 0, 0, x);
     }
 
     /// A copy, which has no bytes.

@@ -23,8 +23,8 @@ pub record Line (A : Type 0) : Type 0 where
   pub key : Key
   pub out : Sent A
   pub into : Taken A
-  pub told_taken : List A            -- what the sender was told is taken
-  pub told_sent : List A             -- what the receiver was told is sent
+  pub told_taken : List A  -- what the sender was told is taken
+  pub told_sent : List A  -- what the receiver was told is sent
 
 -- a message is sent, or the lane is full
 pub record Sends {A : Type 0} (exact : Bool) (capacity : ℕ) (m : A) (ok : Bool) (a b : Line A) : Type 0 where

@@ -62,11 +62,13 @@ pub fn read_one<N: RunName, E: Reach<N>>(reach: &mut E, w: u8, p: u8) -> Option<
     match take_on(reach, w, p) {
         None => None,
         Some(Message::Parcel(_)) => None,
-        Some(Message::Notice {
-            split,
-            attempt,
-            known,
-        }) => {
+        Some(
+            Message::Notice {
+                split,
+                attempt,
+                known,
+            },
+        ) => {
             join_on(reach, p, split, attempt, known);
             Some(is_revoked_on(reach, Who::Reducer(p), split, attempt))
         }

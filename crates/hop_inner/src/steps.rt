@@ -37,11 +37,7 @@ pub fn send_on<N: RunName, E: Reach<N>>(
 }
 
 /// Takes a message from mapper `w`.
-pub fn take_on<N: RunName, E: Reach<N>>(
-    reach: &mut E,
-    w: u8,
-    p: u8,
-) -> Option<Message<E::Seat>>
+pub fn take_on<N: RunName, E: Reach<N>>(reach: &mut E, w: u8, p: u8) -> Option<Message<E::Seat>>
     requires { May parts (Take w p) (E.deeds reach.old) }
     ensures step { Steps E.exact (Take w p) (option_said said result) (E.deeds reach.old) (E.deeds reach.new) }
     ensures fits { IfSome result (FitsAt N.job N.records N.settings N.tells p E.Seat.knows E.Seat.board (E.deeds reach.old).ends.board) }

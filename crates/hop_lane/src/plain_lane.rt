@@ -3,9 +3,9 @@ ghost use Rattle.std.specs.Prelude.{◌≡◌, ℕ, ◌<◌, [], ◌∷◌, ◌+
 ghost use Rattle.hop_inner.specs.Lines.{Key};
 ghost use Rattle.hop_lane.specs.Logs.{key_in};
 
-use hop_inner::{Full, LaneRule, Receiver, Sender};
 use atomic_table::{Play, Seat, Table, TableRule};
 use hop_base::NoMemory;
+use hop_inner::{Full, LaneRule, Receiver, Sender};
 use std::alloc::Global;
 use std::collections::{LinkedList, VecDeque};
 use std::marker::{Brand, Model, PhantomData};

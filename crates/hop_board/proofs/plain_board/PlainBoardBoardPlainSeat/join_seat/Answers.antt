@@ -14,4 +14,4 @@ returns-clause-step g c p i a mine knows =
     let known : KnowsVerdict (verdicts_of (words_of older)) i a = subst (λ (l : LogValue Made). KnowsVerdict (verdicts_of (words_of l.items)) i a) (sym c.other.view_is) knows in
     subst (λ (z : BoardValue). Steps true (Join p i a) tt (board_deeds setup z) (board_deeds setup (record { name = c.hear.new.self.name; who = b.who; calls = c.hear.new.self.items }))) c.self.view_is
     (subst (λ (l : LogValue Made). Steps true (Join p i a) tt (board_deeds setup (record { name = b.calls.name; who = b.who; calls = b.calls.items })) (board_deeds setup (record { name = l.name; who = b.who; calls = l.items }))) (sym c.hear.ensures.same)
-      (join_step setup b.calls.name b.calls.items c.self.invariant.1.rule b.who p i a older c.hear.ensures.older known))
+    (join_step setup b.calls.name b.calls.items c.self.invariant.1.rule b.who p i a older c.hear.ensures.older known))
