@@ -11,5 +11,5 @@ pub mod run;
 mod scattered;
 
 pub use heads::Heads;
-pub use message::{Message, Parcel};
+pub use message::Parcel;
 pub use run::{Run, Runs};

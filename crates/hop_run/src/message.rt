@@ -1,4 +1,4 @@
-//! What mappers send to reducers.
+//! What a mapper sends of a part of its split.
 use crate::run::Run;
 use hop_base::Part;
 
@@ -7,14 +7,4 @@ use hop_base::Part;
 pub struct Parcel {
     pub part: Part,
     pub run: Run,
-}
-
-/// A message from a mapper to a reducer.
-#[derive(Debug, Drop)]
-pub enum Message {
-    /// A part with its run.
-    Parcel(Parcel),
-    /// The attempt of the split has ended: it was committed or revoked, and sends no further part.
-    /// Which of the two, the reducer asks.
-    Notice { split: u32, attempt: u8 },
 }

@@ -1,0 +1,2 @@
+pub mod Theres
+pub mod Meetings

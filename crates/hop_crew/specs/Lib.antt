@@ -1,0 +1,5 @@
+pub mod PlainKeeps
+pub mod PlainWorlds
+pub mod Cells
+pub mod Grid
+pub mod PlainWorldSteps

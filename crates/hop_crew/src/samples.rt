@@ -1,0 +1,31 @@
+//! A small turn over the world of one thread.
+ghost use Rattle.std.specs.Prelude.{◌≡◌, true, IfSome};
+ghost use Rattle.hop_machine.specs.step.Steps.{Runs};
+ghost use Rattle.hop_machine.specs.home.Conditions.{Safe};
+ghost use Rattle.hop_inner.specs.Setups.{parts, setup_of};
+ghost use Rattle.hop_inner.specs.Lines.{option_said};
+ghost use Rattle.hop_inner.specs.Messages.{said, FitsAt};
+ghost use Rattle.hop_inner.specs.Samples.{small_turn};
+ghost use Rattle.hop_board.specs.PlainBoards.{words_of, verdicts_of};
+ghost use Rattle.hop_crew.specs.PlainWorlds.{deeds_of};
+
+use crate::plain_world::PlainWorld;
+use hop_base::RunName;
+use hop_board::PlainSeat;
+use hop_inner::samples::small_turn;
+use hop_inner::{Logged, Message};
+
+/// What is held goes out, and a split is asked for: the same program as over any ends, and each answer is
+/// the one of one thread.
+pub fn plain_turn<N: RunName, V: Logged>(
+    world: &mut PlainWorld<N, V>,
+    w: u8,
+    p: u8,
+    held: &mut Option<Message<PlainSeat>>,
+) -> Option<u32>
+    requires safe { Safe parts true (small_turn w p (option_said said held.old)) (deeds_of (setup_of N.records N.script N.settings) world.old) }
+    requires fits { IfSome held.old (FitsAt N.job N.records N.settings N.tells p (λ s. verdicts_of (words_of s.items)) (λ s. s.name) (deeds_of (setup_of N.records N.script N.settings) world.old).ends.board) }
+    ensures { Runs true (small_turn w p (option_said said held.old)) (deeds_of (setup_of N.records N.script N.settings) world.old) (option_said said held.new, result) (deeds_of (setup_of N.records N.script N.settings) world.new) }
+{
+    small_turn(world, w, p, held)
+}

@@ -1,0 +1,3 @@
+pub mod LockSteps
+pub mod Safety
+pub mod Allowing

@@ -1,0 +1,7 @@
+use Rattle.std.proofs.Common.{refl}
+use Rattle.hop_machine.specs.declared.words.Who.TheVariants as whose
+use Rattle.hop_machine.specs.step.Steps.{Draw}
+use Rattle.hop_inner.proofs.steps.draw_on.Goals as goal
+
+pub returns : goal.returns
+returns g c = g.met.E.Reach.board_step c.args.reach.now (whose.Mapper c.args.w) c.board.result.now c.draw.new.self (Draw c.args.w c.args.split) c.draw.result c.board.ensures.end refl (c.draw.ensures.step c.args.w c.board.ensures.whose)

@@ -1,0 +1,6 @@
+pub mod Lines
+pub mod Setups
+pub mod Messages
+pub mod Boards
+pub mod Locks
+pub mod Samples

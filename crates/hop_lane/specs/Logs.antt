@@ -1,0 +1,6 @@
+-- What the seat of a lane knows.
+use Rattle.hop_lane.specs.declared.plain_lane.Log.{Log}
+use Rattle.hop_inner.specs.Lines.{Key}
+
+abbrev pub key_in : {T : Type 0} → Log T → Key
+key_in log = record { mapper = log.mapper; reducer = log.reducer; board = log.board }

@@ -1,0 +1,6 @@
+//! Lanes.
+#![tactic(auto)]
+
+pub mod plain_lane;
+
+pub use plain_lane::{LaneKey, PlainLane};
