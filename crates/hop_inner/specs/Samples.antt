@@ -20,5 +20,6 @@ reads p None = Done None
 reads p (Some (Range part)) = Done None
 reads p (Some (Notice i a)) = Then (Join p i a) (λ _. Then (AskRevoked (whose.Reducer p) i a) (λ o. Done (Some o)))
 
+-- a message is taken and read
 abbrev pub read_one : ℕ → ℕ → Prog (Option Bool)
 read_one w p = Then (Take w p) (λ o. reads p o)

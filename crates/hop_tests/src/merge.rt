@@ -11,7 +11,8 @@ use hop_jobs::{Known, Wc};
 use hop_laws::Job;
 use hop_merge::merge_all;
 use hop_records::{Book, BookFault};
-use hop_run::{Message, Parcel, Run, Runs};
+use hop_inner::Message;
+use hop_run::{Parcel, Run, Runs};
 use std::alloc::{AllocError, Global};
 use std::test::Fail;
 
@@ -227,7 +228,7 @@ fn a_parcel_is_a_message(rt: HostRuntime) -> Result<(), Fail> {
     let alloc = rt.alloc();
     let part = part(0, 1);
     let run = made(alloc, part)?.copy()?;
-    let message = Message::Parcel(Parcel { part, run });
+    let message: Message<u8> = Message::Parcel(Parcel { part, run });
     assert!(rt; matches!(message, Message::Parcel(_)));
     Ok(())
 }
