@@ -7,11 +7,11 @@ ghost use Rattle.hop_laws.specs.Groups.{red};
 ghost use Rattle.hop_records.specs.Records.{splits_of, len_of};
 
 use hop_base::{NoMemory, Part, Text};
+use hop_inner::Message;
 use hop_jobs::{Known, Wc};
 use hop_laws::Job;
 use hop_merge::merge_all;
 use hop_records::{Book, BookFault};
-use hop_inner::Message;
 use hop_run::{Parcel, Run, Runs};
 use std::alloc::{AllocError, Global};
 use std::test::Fail;
