@@ -1,5 +1,5 @@
 //! Tests of runs and of merging them.
-ghost use Rattle.std.specs.Prelude.{◌≡◌, ◌<◌, ◌≤◌, ◌++◌, ◌∷◌, [], IfOk};
+ghost use Rattle.std.specs.Prelude.{◌≡◌, ◌<◌, ◌≤◌, ◌++◌, ◌∷◌, [], length, IfOk};
 ghost use Rattle.std.specs.List.{flat_map};
 ghost use Rattle.hop_run.specs.Runs.{RunStands};
 ghost use Rattle.hop_laws.specs.Blocking.{part_pairs};
@@ -120,7 +120,8 @@ fn made(alloc: Global, part: Part) -> Result<Run, NoMemory>
 
 // The run of a part of these records.
 fn made_of(alloc: Global, input: &[u8], part: Part) -> Result<Run, NoMemory>
-    requires { part.from ≤ part.to }
+    requires few { length input.now ≤ 16777216 }
+    requires ordered { part.from ≤ part.to }
 {
     let Ok(book) = Book::read(alloc, input, 2) else {
         return Err(NoMemory);
