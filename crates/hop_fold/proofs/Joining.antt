@@ -16,11 +16,11 @@ use Rattle.hop_base.specs.Fields.{pair_of}
 use Rattle.hop_base.specs.Order.{val_cmp, IsValidPair}
 use Rattle.hop_base.specs.Sorted.{ord}
 use Rattle.hop_laws.specs.Laws.{AlwaysCombinesWell, ReducesAlike}
-use Rattle.hop_laws.specs.Numbers.{IsAt, renumbered}
+use Rattle.hop_laws.specs.Numbers.{IsAt, renumbered, number_val}
 use Rattle.hop_laws.specs.Stands.{StandsFor}
 use Rattle.hop_laws.proofs.NumberLaws.{around}
 use Rattle.hop_laws.proofs.StandsLaws.{stands_sorted, stands_merged, stands_itself, stands_through, stands_two}
-use Rattle.hop_fold.specs.Gathering.{StandsWith, number_val}
+use Rattle.hop_fold.specs.Gathering.{StandsWith}
 use Rattle.hop_fold.proofs.Standing.{added}
 
 -- ---- two numbers in order

@@ -8,10 +8,6 @@ use Rattle.hop_laws.specs.Blocking.{emitted}
 use Rattle.hop_laws.specs.Partition.{of_partition}
 use Rattle.hop_laws.specs.Stands.{StandsFor}
 
--- a value that is a number alone
-abbrev pub number_val : ℕ → Val
-number_val n = record { n = n; s = [] }
-
 -- the new pairs stand for whatever the old ones stand for, with some more
 abbrev pub StandsWith : (List ℕ → List Val → List ℕ) → List Pair → List Pair → List Pair → Type 0
 StandsWith reduce old more new = (ps : List Pair) → All IsValidPair ps → StandsFor reduce old ps → StandsFor reduce new (ps ++ more)

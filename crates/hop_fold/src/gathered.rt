@@ -1,13 +1,15 @@
 //! The pairs of the partitions, gathered while records are mapped.
-ghost use Rattle.std.specs.Prelude.{◌≡◌, ◌≤◌, ◌∷◌, [], ℕ, Bool, true, false, List, length, replicate, map, IfOk, OnOk};
+ghost use Rattle.std.specs.Prelude.{◌≡◌, ◌≤◌, ◌∷◌, [], ℕ, Bool, true, false, List, length, replicate, map, IfOk, IfSome, OnOk};
 ghost use Rattle.hop_base.specs.declared.value.Pair.{Pair};
 ghost use Rattle.hop_laws.specs.Groups.{red};
 ghost use Rattle.hop_base.specs.Fields.{pair_of};
+ghost use Rattle.hop_base.specs.Order.{val_cmp};
+ghost use Rattle.hop_base.specs.Sorted.{ord};
+ghost use Rattle.hop_laws.specs.Numbers.{number_val};
 ghost use Rattle.hop_laws.specs.Stands.{KeepsStanding};
 ghost use Rattle.hop_fold.specs.Gathering.{StandsWith};
 
 use crate::index::Index;
-use crate::two::Two;
 use hop_base::{NoMemory, Text};
 use hop_laws::{Gathered, Job, PairSink, key_hash};
 use std::alloc::Global;
@@ -21,7 +23,6 @@ pub(crate) struct Folded {
     least: usize,
     limit: usize,
     index: Index,
-    two: Two,
 }
 
 impl Model for Folded {
@@ -39,13 +40,11 @@ impl Folded {
         ensures { IfOk result (λ made. made ≡ []) }
     {
         let index = Index::new(alloc)?;
-        let two = Two::new(alloc)?;
         Ok(Folded {
             pairs: Gathered::new(alloc),
             least,
             limit: least,
             index,
-            two,
         })
     }
 
@@ -63,37 +62,31 @@ impl Folded {
         ensures { OnOk result (StandsWith (J.meaning job.now).reduced self.old (pair_of key.now number text.now ∷ []) self.new) }
     {
         if text.is_empty() {
-            if self.joins(alloc, job, key, number)? {
+            if self.joins(job, key, number) {
                 return Ok(());
             }
         }
         self.append(alloc, job, key, number, text)
     }
 
-    // One more number, where the index finds one of the key and combine makes one number of both. It tells whether
-    // that is so; if not, the pairs are as before, and the index knows where one more will be.
-    fn joins<J: Job>(
-        &mut self,
-        alloc: Global,
-        job: &J,
-        key: &[u8],
-        number: u64,
-    ) -> Result<bool, NoMemory>
+    // One more number, where the index finds one of the key and the job joins the two. It tells whether that is so; if
+    // not, the pairs are as before, and the index knows where one more will be.
+    fn joins<J: Job>(&mut self, job: &J, key: &[u8], number: u64) -> bool
         requires { length key.now ≤ 131071 }
-        ensures joined { IfOk result (λ is. is ≡ true → StandsWith (J.meaning job.now).reduced self.old (pair_of key.now number [] ∷ []) self.new) }
-        ensures not { IfOk result (λ is. is ≡ false → self.new ≡ self.old) }
+        ensures joined { result ≡ true → StandsWith (J.meaning job.now).reduced self.old (pair_of key.now number [] ∷ []) self.new }
+        ensures not { result ≡ false → self.new ≡ self.old }
     {
         let hash = key_hash(key);
         if let Some(place) = self.index.guess(hash) {
             if let Some(there) = self.pairs.number_at(place, key) {
-                if let Some(both) = self.two.combined(alloc, job, key, there, number)? {
+                if let Some(both) = joined(job, there, number) {
                     self.pairs.set_number(place, both);
-                    return Ok(true);
+                    return true;
                 }
             }
         }
         self.index.put(hash, self.pairs.len());
-        Ok(false)
+        false
     }
 
     // One more pair, behind all. They are combined where they have grown to the limit.
@@ -134,6 +127,13 @@ impl Folded {
         let text = self.pairs.reduced(alloc, job)?;
         Ok(Text::from_vec(text))
     }
+}
+
+// What a job joins two numbers of a key to, in whichever order they came.
+fn joined<J: Job>(job: &J, a: u64, b: u64) -> Option<u64>
+    ensures { IfSome result (λ n. (key : List ℕ) → (J.meaning job.now).combined key (ord val_cmp (number_val a ∷ number_val b ∷ [])) ≡ number_val n ∷ []) }
+{
+    job.joined(a.min(b), a.max(b))
 }
 
 // Puts the pairs in order, and combines them unless they are mostly apart. It tells whether they are.

@@ -6,6 +6,5 @@ mod gathered;
 mod index;
 mod lines;
 mod lists;
-mod two;
 
 pub use blocking::{block, block_lines};

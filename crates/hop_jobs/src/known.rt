@@ -63,6 +63,15 @@ impl Job for Known {
         }
     }
 
+    fn joined(&self, a: u64, b: u64) -> Option<u64> {
+        match self {
+            Known::Wc(job) => job.joined(a, b),
+            Known::Sum(job) => job.joined(a, b),
+            Known::Max(job) => job.joined(a, b),
+            Known::Top(job) => job.joined(a, b),
+        }
+    }
+
     fn reduce(
         &self,
         alloc: Global,

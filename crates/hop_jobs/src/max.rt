@@ -37,6 +37,10 @@ impl Job for Max {
         one_number(vals, n)
     }
 
+    fn joined(&self, _a: u64, b: u64) -> Option<u64> {
+        Some(b)
+    }
+
     fn reduce(
         &self,
         _alloc: Global,

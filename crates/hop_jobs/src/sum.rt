@@ -36,6 +36,10 @@ impl Job for Sum {
         one_number(vals, n)
     }
 
+    fn joined(&self, a: u64, b: u64) -> Option<u64> {
+        Some(a.saturating_add(b))
+    }
+
     fn reduce(
         &self,
         _alloc: Global,

@@ -3,6 +3,7 @@ ghost use Rattle.std.specs.Prelude.{◌≡◌, ◌≤◌, ◌<◌, ◌++◌, len
 ghost use Rattle.hop_base.specs.Meaning.{Meaning};
 ghost use Rattle.hop_base.specs.Order.{val_cmp};
 ghost use Rattle.hop_laws.specs.Laws.{IsLawful};
+ghost use Rattle.hop_laws.specs.Numbers.{JoinsTo};
 
 use crate::sink::PairSink;
 use hop_base::{Blob, NoMemory, Pair, Val};
@@ -43,6 +44,16 @@ pub trait Job {
         requires some { 0 < length vals.items }
         requires sorted { IsSorted val_cmp vals.items }
         ensures { IfOk result (λ kept. kept.items ≡ (meaning self.now).combined key.now vals.items) };
+
+    /// What two numbers of a key that have no texts are combined to, the lesser first, where that is one number whatever the key is. A job that tells it
+    /// spares a call of `combine` for each pair whose key is there; unless it says otherwise it tells nothing, and values are combined when many have gathered.
+    fn joined(&self, a: u64, b: u64) -> Option<u64>
+        requires { a ≤ b }
+        ensures { JoinsTo (meaning self.now) a b result }
+    {
+        let _ = (a, b);
+        None
+    }
 
     /// Appends the text for the key and its values, one or more in order. After `NoMemory` the text
     /// is as before.

@@ -1,4 +1,4 @@
-use Rattle.std.proofs.Common.{◌++◌, List, ℕ, length, sym, ap, subst, ◌∙◌, arith}
+use Rattle.std.proofs.Common.{List, ℕ, length, sym, subst, arith}
 use Rattle.hop_laws.specs.declared.head.Head.{Head}
 use Rattle.hop_laws.proofs.EntryLaws.{IsMade, made}
 use Rattle.hop_laws.proofs.HeadLaws.{bytes_by_index}

@@ -1,8 +1,7 @@
-use Rattle.std.proofs.Common.{List, get_or, ap, subst, ◌∙◌, arith}
+use Rattle.std.proofs.Common.{List, ap, subst, ◌∙◌}
 use Rattle.std.specs.Prelude.{All}
 use Rattle.hop_base.specs.declared.value.Pair.{Pair}
 use Rattle.hop_base.specs.Order.{IsValidPair}
-use Rattle.hop_laws.specs.declared.entry.Entry.{Entry}
 use Rattle.hop_laws.specs.Numbers.{renumbered}
 use Rattle.hop_laws.proofs.GatheredLaws.{valid_pairs}
 use Rattle.hop_laws.proofs.NumberLaws.{renumbered_at}
