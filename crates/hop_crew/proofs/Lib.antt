@@ -1,2 +1,4 @@
+pub mod Filling
+pub mod New
 pub mod Theres
 pub mod Meetings

@@ -10,7 +10,7 @@ use Rattle.hop_machine.specs.step.Steps.{Setup, rules_of, Deeds, Begins, End, Ou
 use Rattle.hop_crew.specs.Grid.{both_true}
 use Rattle.hop_lane.specs.PlainLanes.{Lane}
 use Rattle.hop_inner.specs.Locks.{Lock}
-use Rattle.hop_machine.specs.settling.Meeting.{Meets, CutMeets, Gathers, is_mappers_board, without_mappers}
+use Rattle.hop_machine.specs.settling.Meeting.{Meets, CutMeets, Gathers, is_mappers_board}
 use Rattle.hop_crew.specs.PlainWorlds.{sent_at, taken_at, is_keep, is_cut, has_end, deeds_with, may_ask, Mail}
 use Rattle.std.specs.List.{slice_get}
 use Rattle.hop_machine.specs.board.Board.{BoardRule}

@@ -2,8 +2,6 @@
 use Rattle.std.proofs.Common.{◌≡◌, ℕ, ◌+◌, ◌*◌, ◌<◌, ◌==◌, ◌&&◌, Bool, true, false, nat_lt, cond, List, [], ◌∷◌, length, Option, Some, None, refl, sym, ap, ◌∙◌, arith, zero, suc}
 use Rattle.std.specs.List.{slice_get}
 use Rattle.std.proofs.lemmas.Bool.{eqb-true}
-use Rattle.std.proofs.lemmas.Option.{slice_get_read}
-use Rattle.hop_inner.specs.Lines.{Key}
 use Rattle.hop_lane.specs.PlainLanes.{Lane}
 use Rattle.hop_crew.specs.PlainWorlds.{is_lane, same_numbers, grid_get}
 use Rattle.hop_crew.specs.Grid.{both_true}

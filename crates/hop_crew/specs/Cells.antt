@@ -1,10 +1,10 @@
 -- One lane among many, before and after a call of one of its ends.
-use Rattle.std.specs.Prelude.{◌≡◌, ℕ, ◌+◌, ◌-◌, ◌≤◌, Bool, true, false, List, [], ◌∷◌, ◌++◌, map, length, drop, Option, Some, None, cond, nat_lt}
+use Rattle.std.specs.Prelude.{◌≡◌, ℕ, ◌-◌, Bool, true, false, List, [], ◌∷◌, ◌++◌, map, length, drop, Option, Some, None, cond, nat_lt}
 use Rattle.std.proofs.Common.{refl, sym, ap, ◌∙◌, subst, arith, append_assoc}
 use Rattle.std.proofs.lemmas.List.{map-append, length-map, length-append, append_cancel_left, append-nil}
 use Rattle.std.proofs.Math.Seq.{drop-append_seam}
 use Rattle.std.proofs.Math.Nat.{add-sub_cancel_left}
-use Rattle.hop_machine.specs.step.Steps.{Sent, Taken, sending, taking, Begins, TellsFull, TellsEmpty, first, rest, once_more}
+use Rattle.hop_machine.specs.step.Steps.{Sent, Taken, sending, taking, Begins, TellsFull, TellsEmpty, first, rest}
 use Rattle.hop_inner.specs.Lines.{Sends, Takes, option_said}
 use Rattle.hop_lane.specs.PlainLanes.{Lane, line_of}
 use Rattle.hop_crew.specs.PlainWorlds.{sent_at, taken_at}

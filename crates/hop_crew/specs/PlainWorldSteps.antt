@@ -1,11 +1,11 @@
 -- A step of an end is that step of the world.
-use Rattle.std.specs.Prelude.{◌≡◌, ℕ, ◌+◌, ◌*◌, ◌==◌, ◌&&◌, Bool, true, false, List, [], ◌∷◌, ◌++◌, length, Option, Some, None, cond, nat_lt, is_some}
+use Rattle.std.specs.Prelude.{◌≡◌, ℕ, ◌==◌, ◌&&◌, Bool, true, false, List, [], ◌∷◌, ◌++◌, length, Option, Some, cond, nat_lt}
 use Rattle.std.proofs.Common.{refl, sym, ap, ◌∙◌, subst}
 use Rattle.hop_cut.specs.declared.cut.Cut.{Cut}
 use Rattle.hop_machine.specs.declared.words.Who.{Who}
 use Rattle.hop_machine.specs.step.Steps.{Setup, TellsTaken, TellsCuts, Deeds, Step, Found, Steps, Send, Take, NextSplit, Draw, Commit, Revoke, AskWinner, AskRevoked, Join, TryHold, Hold, Record, GiveBack, SendCut, TakeCut, Risk, CutSaid, Grows, End, OutEnd, InEnd, CutOutEnd, CutInEnd, BoardEnd, KeepEnd, Begins, Sent, Taken, sending, taking, first, rest, shown, Knows, at1, at2}
 use Rattle.hop_crew.specs.declared.plain_world.PlainWorld.{PlainWorld}
-use Rattle.hop_inner.specs.Lines.{Key, Sends, Takes, option_said}
+use Rattle.hop_inner.specs.Lines.{Sends, Takes, option_said}
 use Rattle.hop_lane.specs.PlainLanes.{Lane, line_of}
 use Rattle.hop_inner.specs.Messages.{said, said_cut}
 use Rattle.hop_inner.specs.Locks.{Lock, with_kept}

@@ -1,5 +1,5 @@
 -- What the ends of a plain world did.
-use Rattle.std.specs.Prelude.{◌≡◌, ℕ, ◌+◌, ◌*◌, ◌&&◌, ◌==◌, Bool, true, false, List, [], ◌∷◌, ◌++◌, map, Option, Some, None, cond, nat_lt, is_some, not}
+use Rattle.std.specs.Prelude.{ℕ, ◌+◌, ◌*◌, ◌&&◌, ◌==◌, Bool, true, false, List, [], ◌∷◌, ◌++◌, map, Option, Some, None, cond, nat_lt, not}
 use Rattle.std.specs.List.{slice_get}
 use Rattle.std.specs.Vec.{with_item}
 use Rattle.hop_cut.specs.declared.cut.Cut.{Cut}
@@ -9,7 +9,6 @@ use Rattle.hop_machine.specs.step.Steps.{Setup, Deeds, End, OutEnd, InEnd, CutOu
 use Rattle.hop_inner.specs.declared.message.Message.{Message}
 use Rattle.hop_board.specs.declared.plain_board.Made.{Made}
 use Rattle.hop_crew.specs.declared.plain_world.PlainWorld.{PlainWorld}
-use Rattle.hop_inner.specs.Lines.{Key}
 use Rattle.hop_lane.specs.PlainLanes.{Lane}
 use Rattle.hop_inner.specs.Messages.{said, said_cut}
 use Rattle.hop_inner.specs.Locks.{Lock}

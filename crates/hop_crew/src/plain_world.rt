@@ -1,16 +1,17 @@
 //! All lanes, the board and the locks, on one thread.
-ghost use Rattle.std.specs.Prelude.{◌≡◌, false};
-ghost use Rattle.std.specs.List.{slice_get};
+ghost use Rattle.std.specs.Prelude.{◌≡◌};
 ghost use Rattle.hop_inner.specs.Setups.{setup_of};
-ghost use Rattle.hop_crew.specs.PlainWorlds.{deeds_of, deeds_with, grid_get};
+ghost use Rattle.hop_crew.specs.PlainWorlds.{deeds_of};
 
+use crate::making::{cut_lanes, locks, message_lanes};
 use crate::plain_keep::PlainKeep;
-use hop_base::RunName;
+use hop_base::{NoMemory, RunName};
 use hop_board::{PlainBoard, PlainSeat};
 use hop_cut::Cut;
-use hop_inner::{CutLane, Keep, Logged, Message, MessageLane, Reach};
+use hop_inner::{Board, CutLane, Keep, Logged, Message, MessageLane, Reach};
 use hop_lane::PlainLane;
 use hop_machine::Who;
+use std::alloc::Global;
 
 /// All lanes, the board and the locks, on one thread.
 #[derive(Drop)]
@@ -26,18 +27,37 @@ pub struct PlainWorld<N: RunName, V: Logged> {
 }
 
 impl<N: RunName, V: Logged> PlainWorld<N, V> {
-    /// The world of these ends: the lanes of a mapper stand together, by reducer.
-    pub fn of(
+    ghost use Rattle.std.specs.Prelude.{◌<◌, ◌≤◌, [], length, IfOk};
+    ghost use Rattle.hop_machine.specs.home.Conditions.{HasAll};
+    ghost use Rattle.hop_machine.specs.run.AllHome.{new_deeds};
+    ghost use Rattle.hop_crew.specs.Unused.{AreFirst};
+
+    /// The world of a run of which nothing was done, with all its ends: a board that was asked nothing, the reducers' values, whose histories are empty, in the order of their
+    /// numbers, and lanes of this capacity.
+    pub fn new(
+        alloc: Global,
+        mut board: PlainBoard<N>,
+        values: Vec<V>,
         workers: u8,
-        reducers: u8,
-        lanes: Vec<PlainLane<Message<PlainSeat>, MessageLane<N, PlainSeat>>>,
-        cuts: Vec<PlainLane<Cut, CutLane<N>>>,
-        board: PlainBoard<N>,
-        keeps: Vec<PlainKeep<V>>,
-    ) -> PlainWorld<N, V>
-        ensures { deeds_of (setup_of N.records N.script N.settings) result ≡ deeds_with (setup_of N.records N.script N.settings) false board (grid_get lanes.items workers reducers) (slice_get cuts.items) (slice_get keeps.items) }
+        lane: u8,
+    ) -> Result<PlainWorld<N, V>, NoMemory>
+        requires workers { workers ≡ N.settings.workers }
+        requires few { workers ≤ 8 }
+        requires reducers { length values.items ≡ N.settings.reducers }
+        requires some { N.settings.reducers ≤ 8 }
+        requires lane { lane ≡ N.settings.lane }
+        requires room { 0 < lane }
+        requires unasked { board.calls ≡ [] }
+        requires first { AreFirst (setup_of N.records N.script N.settings) V.value V.number values.items }
+        ensures new { IfOk result (λ w. deeds_of (setup_of N.records N.script N.settings) w ≡ new_deeds (setup_of N.records N.script N.settings) (deeds_of (setup_of N.records N.script N.settings) w).ends) }
+        ensures all { IfOk result (λ w. HasAll (deeds_of (setup_of N.records N.script N.settings) w)) }
     {
-        PlainWorld {
+        let reducers = values.len() as u8;
+        let seat = board.split_seat();
+        let lanes = message_lanes(alloc, workers, reducers, lane, &seat)?;
+        let cuts = cut_lanes(alloc, reducers, &seat)?;
+        let keeps = locks::<N, V>(alloc, values)?;
+        Ok(PlainWorld {
             workers,
             reducers,
             lanes,
@@ -45,7 +65,7 @@ impl<N: RunName, V: Logged> PlainWorld<N, V> {
             board,
             keeps,
             gathered: false,
-        }
+        })
     }
 }
 

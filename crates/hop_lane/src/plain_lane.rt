@@ -5,7 +5,7 @@ ghost use Rattle.hop_lane.specs.Logs.{key_in};
 
 use atomic_table::{Play, Seat, Table, TableRule};
 use hop_base::NoMemory;
-use hop_inner::{Full, LaneRule, Receiver, Sender};
+use hop_inner::{Full, Knowing, LaneRule, Receiver, Sender};
 use std::alloc::Global;
 use std::collections::{LinkedList, VecDeque};
 use std::marker::{Brand, Model, PhantomData};
@@ -69,7 +69,13 @@ struct Notes<T: Drop> {
     ghost one: { table.shared.table_id.words ≡ 1 },
 }
 
-fn give_key<T: Drop, K: LaneKey>(notes: &mut Notes<T>)
+// The lane's notes get the key of a lane from this mapper to this reducer, by the board of a seat.
+fn give_key<T: Drop, S: Knowing, K: LaneKey>(
+    notes: &mut Notes<T>,
+    _mapper: u8,
+    _reducer: u8,
+    _seat: &S,
+)
     ensures key { key_in notes.new.seat.me.0 ≡ K.key }
     ensures taken { notes.new.seat.me.0.taken ≡ notes.old.seat.me.0.taken }
 {
@@ -78,14 +84,18 @@ fn give_key<T: Drop, K: LaneKey>(notes: &mut Notes<T>)
 }
 
 impl<T: Drop> Notes<T> {
-    fn new(alloc: Global) -> Result<Notes<T>, NoMemory>
-        ghost key: { Key }
-        ensures key { IfOk result (λ n. key_in n.seat.me.0 ≡ key) }
+    fn new<S: Knowing>(
+        alloc: Global,
+        mapper: u8,
+        reducer: u8,
+        seat: &S,
+    ) -> Result<Notes<T>, NoMemory>
+        ensures key { IfOk result (λ n. key_in n.seat.me.0 ≡ record { mapper = mapper; reducer = reducer; board = S.board seat.now }) }
         ensures taken { IfOk result (λ n. n.seat.me.0.taken ≡ []) }
     {
-        let (table, seat) = Table::of_words(alloc, &[0], &())?;
-        let mut notes = Notes { table, seat };
-        give_key::<T, Brand>(&mut notes);
+        let (table, own) = Table::of_words(alloc, &[0], &())?;
+        let mut notes = Notes { table, seat: own };
+        give_key::<T, S, Brand>(&mut notes, mapper, reducer, seat);
         Ok(notes)
     }
 
@@ -136,18 +146,23 @@ impl<T: Drop, L: LaneRule<T>> Model for PlainLane<T, L> {
 }
 
 impl<T: Drop, L: LaneRule<T>> PlainLane<T, L> {
-    /// An empty lane with this key, which stands in proofs alone.
-    pub fn new(alloc: Global, capacity: u8) -> Result<PlainLane<T, L>, NoMemory>
-        ghost key: { Key }
+    /// An empty lane of this capacity, at least 1, from a mapper to a reducer. Which lane it is, and that its notices bring seats of the board that `seat` is of, stands in proofs alone.
+    pub fn new<S: Knowing>(
+        alloc: Global,
+        capacity: u8,
+        mapper: u8,
+        reducer: u8,
+        seat: &S,
+    ) -> Result<PlainLane<T, L>, NoMemory>
         requires some { 0 < capacity }
         requires rule { capacity ≡ L.capacity }
-        ensures key { IfOk result (λ l. l.key ≡ key) }
+        ensures key { IfOk result (λ l. l.key ≡ record { mapper = mapper; reducer = reducer; board = S.board seat.now }) }
         ensures taken { IfOk result (λ l. l.taken ≡ []) }
         ensures held { IfOk result (λ l. l.held ≡ []) }
         ensures counts { IfOk result (λ l. (l.fulls ≡ 0) × (l.nones ≡ 0)) }
     {
         let queue = VecDeque::with_capacity(alloc, capacity as usize)?;
-        let notes = Notes::new(alloc)?;
+        let notes = Notes::new(alloc, mapper, reducer, seat)?;
         Ok(PlainLane {
             queue,
             notes,

@@ -1,4 +1,4 @@
-use Rattle.std.proofs.Common.{rules, arith, refl, lit<}
+use Rattle.std.proofs.Common.{arith, refl}
 use Rattle.atomic_table.specs.Table.{keeps}
 use Rattle.hop_lane.proofs.plain_lane.give_key.Goals as goal
 

@@ -1,10 +1,9 @@
-use Rattle.std.proofs.Common.{rules, ◌≡◌, ◌∙◌, Some, refl, sym, ap, subst, true}
-use Rattle.std.specs.List.{slice_get}
+use Rattle.std.proofs.Common.{◌≡◌, ◌∙◌, Some, sym, ap, subst, true}
 use Rattle.std.specs.Option.{option_map}
 use Rattle.hop_inner.specs.Setups.{setup_of}
 use Rattle.hop_machine.specs.step.Steps.{holding, TellsValue}
 use Rattle.hop_inner.specs.Locks.{Lock, with_kept}
-use Rattle.hop_crew.specs.PlainWorlds.{deeds_of, keep_of, with_keep, kept_at}
+use Rattle.hop_crew.specs.PlainWorlds.{deeds_of, keep_of, kept_at}
 use Rattle.hop_crew.specs.PlainWorldSteps.{keep_puts}
 use Rattle.hop_crew.proofs.Meetings.{keep_there, keep_number}
 use Rattle.hop_inner.proofs.LockSteps.{steps_hold}

@@ -1,4 +1,4 @@
-use Rattle.std.proofs.Common.{rules, ap, ◌∙◌, sym, append_assoc, arith, true, ◌≡◌, ◌≤◌, ◌++◌, ◌∷◌, [], subst, deque_len, deque_capacity}
+use Rattle.std.proofs.Common.{ap, ◌∙◌, sym, append_assoc, arith, true, ◌≡◌, ◌++◌, ◌∷◌, [], subst}
 use Rattle.hop_inner.specs.Lines.{name_of, EachAllowed, Sends}
 use Rattle.hop_lane.specs.PlainLanes.{Lane, line_of}
 use Rattle.hop_lane.specs.Logs.{key_in}

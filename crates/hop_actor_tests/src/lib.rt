@@ -1,0 +1,5 @@
+//! Tests of what the actors of a run reach, and of the actors, through their public calls alone.
+#![tactic(auto)]
+
+#[cfg(test)]
+mod lanes;
