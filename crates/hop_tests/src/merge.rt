@@ -7,12 +7,11 @@ ghost use Rattle.hop_laws.specs.Groups.{red};
 ghost use Rattle.hop_records.specs.Records.{splits_of, len_of};
 
 use hop_base::{NoMemory, Part, Text};
-use hop_inner::Message;
 use hop_jobs::{Known, Wc};
 use hop_laws::Job;
 use hop_merge::merge_all;
 use hop_records::{Book, BookFault};
-use hop_run::{Parcel, Run, Runs};
+use hop_run::{Run, Runs};
 use std::alloc::{AllocError, Global};
 use std::test::Fail;
 
@@ -221,16 +220,6 @@ fn merges_and_combines_in_both_orders(rt: HostRuntime) -> Result<(), Fail> {
         let text = text_of_two(rt.alloc(), part(0, 1), part(1, 2), combined_first)?;
         assert_eq!(rt; text.as_slice(), b"a\t1\nb\t2\n".as_slice());
     }
-    Ok(())
-}
-
-#[test]
-fn a_parcel_is_a_message(rt: HostRuntime) -> Result<(), Fail> {
-    let alloc = rt.alloc();
-    let part = part(0, 1);
-    let run = made(alloc, part)?.copy()?;
-    let message: Message<u8> = Message::Parcel(Parcel { part, run });
-    assert!(rt; matches!(message, Message::Parcel(_)));
     Ok(())
 }
 
