@@ -1,0 +1,2 @@
+pub mod TwoSplits
+pub mod Seats
