@@ -1,0 +1,10 @@
+//! The reducer's turn under its lock, and the calls by which a coordinator catches it up and settles it.
+#![tactic(auto)]
+
+mod answer;
+pub mod drain;
+mod looking;
+mod reading;
+mod recording;
+
+pub use drain::Drain;
