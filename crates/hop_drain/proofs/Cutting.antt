@@ -11,15 +11,16 @@ use Rattle.hop_shelf.specs.Cuts.{IsCut}
 use Rattle.hop_shelf.specs.Journal.{JournalValue}
 use Rattle.hop_shelf.specs.Sound.{ShelfValue}
 use Rattle.hop_machine.specs.declared.words.Turn.{Turn}
-use Rattle.hop_machine.specs.step.Steps.{Setup, Risk, CutSaid, Deeds, Prog, Steps, Runs, Done, Then, and_then, SendCut, Record}
+use Rattle.hop_machine.specs.step.Steps.{Setup, Value, Risk, CutSaid, Deeds, Prog, Steps, Runs, Done, Then, and_then, SendCut, Record}
 use Rattle.hop_machine.specs.actors.ReducerTurns.{Reducer, cut_after, each_cut, send_cuts, still_due, marks_due, notes, records, works}
 use Rattle.hop_machine.specs.home.Conditions.{Safe, May}
 use Rattle.hop_machine.proofs.step.Programs.{Runs-and_then, risk_steps}
 use Rattle.hop_inner.specs.Messages.{said_cut}
 use Rattle.hop_inner.specs.Locks.{RecordsOne, AddsOne}
 use Rattle.hop_inner.specs.Setups.{parts}
+use Rattle.hop_inner.specs.Shelved.{value_of}
 use Rattle.hop_drain.specs.Drains.{each_said, notes_last}
-use Rattle.hop_drain.specs.Held.{IsAdded, with_due, value_of}
+use Rattle.hop_drain.specs.Held.{IsAdded, with_due}
 use Rattle.hop_drain.proofs.Safety.{safe_first, safe_after, safe_risk}
 
 -- # One cut after another
@@ -114,26 +115,30 @@ module _ (e : Bool) (r : Reducer) (s : ShelfValue) (a : Deeds) (added : IsAdded 
       record_safe : Safe parts e (records {A = Reducer × Turn} r added.event (still_due sent now_due) (r, works sent)) n
       record_safe = safe_after parts e (send_cuts r (added.event ∷ before) now_due) (λ ok. records {A = Reducer × Turn} r added.event (still_due ok now_due) (r, works ok)) a n sent notes_safe ran_now
 
-      pub closes_adds : (now : ShelfValue) → now ≡ with_due (still_due sent s.journal.due) s → AddsOne r.number (value_of now) n
-      closes_adds now is = record { event = added.event; events = (λ i. (is i).journal.events) ∙ events_now; may = record_safe.0 }
+      module _ (now : ShelfValue) (is : now ≡ with_due (still_due sent s.journal.due) s) (v : Value) (value : v ≡ value_of now) (q : ℕ) (here : q ≡ r.number) where
+        v_events : v.events ≡ added.event ∷ (n.did.keeps r.number).events
+        v_events = (λ i. (value i).events) ∙ (λ i. (is i).journal.events) ∙ events_now
 
-      pub closes_held : (n.did.keeps r.number).held ≡ true
-      closes_held = (λ i. (same_keeps i r.number).held) ∙ added.held
+        v_due : v.due ≡ still_due sent now_due
+        v_due = (λ i. (value i).due) ∙ (λ i. (is i).journal.due) ∙ ap (still_due sent) due_is
 
-      pub closes_number : (now : ShelfValue) → now ≡ with_due (still_due sent s.journal.due) s → now.p ≡ r.number
-      closes_number now is = (λ i. (is i).p) ∙ added.number
+        pub closes_adds : AddsOne q v n
+        closes_adds = let at_r : AddsOne r.number v n = record { event = added.event; events = v_events; may = record_safe.0 } in subst (λ k. AddsOne k v n) (sym here) at_r
 
-      pub closes_ran : (now : ShelfValue) (b : Deeds) → now ≡ with_due (still_due sent s.journal.due) s
-          → ((ev : Event) → now.journal.events ≡ ev ∷ (n.did.keeps r.number).events → RecordsOne e r.number ev now.journal.due n b)
-          → let x : Reducer × Turn = (r, works sent) in Runs e (notes_last r s.journal.events) a x b
-      closes_ran now b is one =
-          let x : Reducer × Turn = (r, works sent) in
-          let got = one added.event ((λ i. (is i).journal.events) ∙ events_now) in
-          let dues : now.journal.due ≡ still_due sent now_due = (λ i. (is i).journal.due) ∙ ap (still_due sent) due_is in
-          let ran_on : Runs e (notes r before added.event) a x b =
-          Runs-and_then e (send_cuts r (added.event ∷ before) now_due) (λ ok. records {A = Reducer × Turn} r added.event (still_due ok now_due) (r, works ok)) a n b sent x ran_now
-          (records_ran e r added.event (still_due sent now_due) x n b (subst (λ d. RecordsOne e r.number added.event d n b) dues got)) in
-          subst (λ z. Runs e (notes_last r z) a x b) (sym added.events) ran_on
+        pub closes_held : (n.did.keeps q).held ≡ true
+        closes_held = (λ i. (n.did.keeps (here i)).held) ∙ (λ i. (same_keeps i r.number).held) ∙ added.held
+
+        pub closes_number : (m : ℕ) → m ≡ now.p → m ≡ q
+        closes_number m e = e ∙ (λ i. (is i).p) ∙ added.number ∙ sym here
+
+        pub closes_ran : (b : Deeds) → ((ev : Event) → v.events ≡ ev ∷ (n.did.keeps q).events → RecordsOne e q ev v.due n b) → let x : Reducer × Turn = (r, works sent) in Runs e (notes_last r s.journal.events) a x b
+        closes_ran b one =
+            let x : Reducer × Turn = (r, works sent) in
+            let at_r = subst (λ k. (ev : Event) → v.events ≡ ev ∷ (n.did.keeps k).events → RecordsOne e k ev v.due n b) here one in
+            let ran_on : Runs e (notes r before added.event) a x b =
+            Runs-and_then e (send_cuts r (added.event ∷ before) now_due) (λ ok. records {A = Reducer × Turn} r added.event (still_due ok now_due) (r, works ok)) a n b sent x ran_now
+            (records_ran e r added.event (still_due sent now_due) x n b (subst (λ d. RecordsOne e r.number added.event d n b) v_due (at_r added.event v_events))) in
+            subst (λ z. Runs e (notes_last r z) a x b) (sym added.events) ran_on
 
 -- # Of a list of cuts
 

@@ -6,7 +6,7 @@ use Rattle.hop_machine.specs.step.Steps.{Prog, Done, Then, and_then, Deeds, Step
 use Rattle.hop_machine.specs.home.Conditions.{Safe}
 use Rattle.hop_machine.proofs.step.Programs.{risk_steps}
 use Rattle.hop_machine.proofs.step.Told.{at1-here}
-use Rattle.hop_drain.specs.Held.{IsHeld, value_of}
+use Rattle.hop_drain.specs.Held.{IsHeld}
 
 module _ {A B : Type 0} (parts : ℕ) (e : Bool) where
   pub safe_after : (k : Prog A) (f : A → Prog B) (a b : Deeds) (x : A) → Safe parts e (and_then k f) a → Runs e k a x b → Safe parts e (f x) b

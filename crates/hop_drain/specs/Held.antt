@@ -3,7 +3,7 @@ use Rattle.std.specs.Prelude.{◌≡◌, ℕ, ◌≤◌, true, List, [], ◌∷�
 use Rattle.hop_event.specs.declared.event.Event.{Event}
 use Rattle.hop_shelf.specs.Cuts.{AreDue}
 use Rattle.hop_shelf.specs.Sound.{ShelfValue}
-use Rattle.hop_machine.specs.step.Steps.{Deeds, Value}
+use Rattle.hop_machine.specs.step.Steps.{Deeds}
 
 -- it is the value of lock p, with the history that was found
 pub record IsHeld (p : ℕ) (s : ShelfValue) (d : Deeds) : Type 0 where
@@ -28,7 +28,3 @@ pub record IsReady (s : ShelfValue) : Type 0 where
 -- the value with these marks due
 abbrev pub with_due : List ℕ → ShelfValue → ShelfValue
 with_due due s = record s { journal = record s.journal { due = due } }
-
--- the value as the machine sees it
-abbrev pub value_of : ShelfValue → Value
-value_of s = record { events = s.journal.events; due = s.journal.due }

@@ -7,14 +7,15 @@ ghost use Rattle.hop_inner.specs.Setups.{parts};
 ghost use Rattle.hop_inner.specs.Messages.{said, FitsAt};
 ghost use Rattle.hop_drain.specs.Answers.{said_answer};
 ghost use Rattle.hop_drain.specs.Drains.{acts, restarts_now, served};
-ghost use Rattle.hop_drain.specs.Held.{IsHeld, IsReady, value_of};
+ghost use Rattle.hop_drain.specs.Held.{IsHeld, IsReady};
+ghost use Rattle.hop_inner.specs.Shelved.{value_of};
 ghost use Rattle.hop_event.specs.Legal.{restart_due};
 
 use crate::answer::Answer;
 use crate::drain::Drain;
 use hop_base::RunName;
 use hop_inner::steps::{give_back_on, record_on, take_on};
-use hop_inner::{Knowing, Message, Reach};
+use hop_inner::{Knowing, Message, Shelving};
 use hop_shelf::Shelf;
 
 impl<'a, N: RunName> Drain<'a, N> {
@@ -40,7 +41,7 @@ impl<'a, N: RunName> Drain<'a, N> {
     }
 
     // The message came from this lane.
-    fn serve<E: Reach<N, Value = Shelf<N>>>(
+    fn serve<E: Shelving<N>>(
         &mut self,
         reach: &mut E,
         shelf: Shelf<N>,
@@ -59,7 +60,7 @@ impl<'a, N: RunName> Drain<'a, N> {
     }
 
     // The lanes are looked at in turn, and one message is taken from the first that gives one.
-    fn look<E: Reach<N, Value = Shelf<N>>>(&mut self, reach: &mut E, shelf: Shelf<N>) -> Answer
+    fn look<E: Shelving<N>>(&mut self, reach: &mut E, shelf: Shelf<N>) -> Answer
         requires held { IsHeld self.old.number shelf (E.deeds reach.old) }
         requires ready { IsReady shelf }
         requires safe { Safe parts E.exact (looks self.old shelf.journal.events self.old.setup.workers self.old.next) (E.deeds reach.old) }
@@ -76,12 +77,12 @@ impl<'a, N: RunName> Drain<'a, N> {
                 }
             }
         }
-        give_back_on(reach, self.p, shelf);
+        give_back_on(reach, self.p, E::from_shelf(shelf));
         Answer::Idle
     }
 
     // The restart that is due.
-    fn restart<E: Reach<N, Value = Shelf<N>>>(&mut self, reach: &mut E, shelf: Shelf<N>) -> Answer
+    fn restart<E: Shelving<N>>(&mut self, reach: &mut E, shelf: Shelf<N>) -> Answer
         requires held { IsHeld self.old.number shelf (E.deeds reach.old) }
         requires ready { IsReady shelf }
         requires due { restart_due shelf.journal.restarts shelf.journal.events ≡ true }
@@ -91,13 +92,13 @@ impl<'a, N: RunName> Drain<'a, N> {
         let mut shelf = shelf;
         shelf.known();
         shelf.restart();
-        record_on(reach, self.p, shelf);
+        record_on(reach, self.p, E::from_shelf(shelf));
         self.lagging = true;
         Answer::Worked
     }
 
     // A restart that is due, or one message.
-    fn act<E: Reach<N, Value = Shelf<N>>>(&mut self, reach: &mut E, shelf: Shelf<N>) -> Answer
+    fn act<E: Shelving<N>>(&mut self, reach: &mut E, shelf: Shelf<N>) -> Answer
         requires held { IsHeld self.old.number shelf (E.deeds reach.old) }
         requires ready { IsReady shelf }
         requires safe { Safe parts E.exact (acts self.old shelf.journal.events) (E.deeds reach.old) }
@@ -112,7 +113,7 @@ impl<'a, N: RunName> Drain<'a, N> {
     }
 
     // Room for one event is reserved first.
-    pub(crate) fn go_on<E: Reach<N, Value = Shelf<N>>>(
+    pub(crate) fn go_on<E: Shelving<N>>(
         &mut self,
         reach: &mut E,
         shelf: Shelf<N>,
@@ -126,7 +127,7 @@ impl<'a, N: RunName> Drain<'a, N> {
         if shelf.reserve().is_ok() {
             self.act(reach, shelf)
         } else {
-            give_back_on(reach, self.p, shelf);
+            give_back_on(reach, self.p, E::from_shelf(shelf));
             Answer::Stopped
         }
     }
