@@ -4,20 +4,20 @@ ghost use Rattle.hop_inner.specs.Shelved.{value_of};
 
 use crate::plain_world::PlainWorld;
 use hop_base::RunName;
-use hop_inner::{Logged, Shelving};
+use hop_inner::Shelving;
 use hop_shelf::Shelf;
 
 impl<N: RunName> Shelving<N> for PlainWorld<N, Shelf<N>> {
-    fn into_shelf(value: Shelf<N>) -> Shelf<N>
-        ensures value { ⟦<Shelf<N> as Logged>⟧.value value ≡ value_of result }
-        ensures number { ⟦<Shelf<N> as Logged>⟧.number value ≡ result.p }
+    fn into_shelf(&self, value: Shelf<N>) -> Shelf<N>
+        ensures value { value_of value ≡ value_of result }
+        ensures number { value.p ≡ result.p }
     {
         value
     }
 
-    fn from_shelf(shelf: Shelf<N>) -> Shelf<N>
-        ensures value { ⟦<Shelf<N> as Logged>⟧.value result ≡ value_of shelf }
-        ensures number { ⟦<Shelf<N> as Logged>⟧.number result ≡ shelf.p }
+    fn from_shelf(&self, shelf: Shelf<N>) -> Shelf<N>
+        ensures value { value_of result ≡ value_of shelf }
+        ensures number { result.p ≡ shelf.p }
     {
         shelf
     }

@@ -19,12 +19,12 @@ impl<N: RunName> Logged for Shelf<N> {
 /// no more of its type than its history, so it goes through these two.
 pub trait Shelving<N: RunName>: Reach<N> {
     /// The shelf that the value is.
-    fn into_shelf(value: Self::Value) -> Shelf<N>
+    fn into_shelf(&self, value: Self::Value) -> Shelf<N>
         ensures value { Self.Value.value value ≡ value_of result }
         ensures number { Self.Value.number value ≡ result.p };
 
     /// The value that the shelf is.
-    fn from_shelf(shelf: Shelf<N>) -> Self::Value
+    fn from_shelf(&self, shelf: Shelf<N>) -> Self::Value
         ensures value { Self.Value.value result ≡ value_of shelf }
         ensures number { Self.Value.number result ≡ shelf.p };
 }
