@@ -4,7 +4,6 @@
 pub mod plain_keep;
 pub mod plain_world;
 pub mod samples;
-mod shelving;
 
 pub use plain_keep::PlainKeep;
 pub use plain_world::PlainWorld;

@@ -15,7 +15,7 @@ use crate::answer::Answer;
 use crate::drain::Drain;
 use hop_base::RunName;
 use hop_inner::steps::{give_back_on, record_on, take_on};
-use hop_inner::{Knowing, Message, Shelving};
+use hop_inner::{Knowing, Message, Reach};
 use hop_shelf::Shelf;
 
 impl<'a, N: RunName> Drain<'a, N> {
@@ -41,7 +41,7 @@ impl<'a, N: RunName> Drain<'a, N> {
     }
 
     // The message came from this lane.
-    fn serve<E: Shelving<N>>(
+    fn serve<E: Reach<N>>(
         &mut self,
         reach: &mut E,
         shelf: Shelf<N>,
@@ -60,7 +60,7 @@ impl<'a, N: RunName> Drain<'a, N> {
     }
 
     // The lanes are looked at in turn, and one message is taken from the first that gives one.
-    fn look<E: Shelving<N>>(&mut self, reach: &mut E, shelf: Shelf<N>) -> Answer
+    fn look<E: Reach<N>>(&mut self, reach: &mut E, shelf: Shelf<N>) -> Answer
         requires held { IsHeld self.old.number shelf (E.deeds reach.old) }
         requires ready { IsReady shelf }
         requires safe { Safe parts E.exact (looks self.old shelf.journal.events self.old.setup.workers self.old.next) (E.deeds reach.old) }
@@ -77,12 +77,12 @@ impl<'a, N: RunName> Drain<'a, N> {
                 }
             }
         }
-        give_back_on(reach, self.p, E::from_shelf(shelf));
+        give_back_on(reach, self.p, shelf);
         Answer::Idle
     }
 
     // The restart that is due.
-    fn restart<E: Shelving<N>>(&mut self, reach: &mut E, shelf: Shelf<N>) -> Answer
+    fn restart<E: Reach<N>>(&mut self, reach: &mut E, shelf: Shelf<N>) -> Answer
         requires held { IsHeld self.old.number shelf (E.deeds reach.old) }
         requires ready { IsReady shelf }
         requires due { restart_due shelf.journal.restarts shelf.journal.events ≡ true }
@@ -92,13 +92,13 @@ impl<'a, N: RunName> Drain<'a, N> {
         let mut shelf = shelf;
         shelf.known();
         shelf.restart();
-        record_on(reach, self.p, E::from_shelf(shelf));
+        record_on(reach, self.p, shelf);
         self.lagging = true;
         Answer::Worked
     }
 
     // A restart that is due, or one message.
-    fn act<E: Shelving<N>>(&mut self, reach: &mut E, shelf: Shelf<N>) -> Answer
+    fn act<E: Reach<N>>(&mut self, reach: &mut E, shelf: Shelf<N>) -> Answer
         requires held { IsHeld self.old.number shelf (E.deeds reach.old) }
         requires ready { IsReady shelf }
         requires safe { Safe parts E.exact (acts self.old shelf.journal.events) (E.deeds reach.old) }
@@ -113,7 +113,7 @@ impl<'a, N: RunName> Drain<'a, N> {
     }
 
     // Room for one event is reserved first.
-    pub(crate) fn go_on<E: Shelving<N>>(
+    pub(crate) fn go_on<E: Reach<N>>(
         &mut self,
         reach: &mut E,
         shelf: Shelf<N>,
@@ -127,7 +127,7 @@ impl<'a, N: RunName> Drain<'a, N> {
         if shelf.reserve().is_ok() {
             self.act(reach, shelf)
         } else {
-            give_back_on(reach, self.p, E::from_shelf(shelf));
+            give_back_on(reach, self.p, shelf);
             Answer::Stopped
         }
     }

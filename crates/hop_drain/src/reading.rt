@@ -18,7 +18,7 @@ use crate::drain::Drain;
 use hop_base::RunName;
 use hop_event::Via;
 use hop_inner::steps::{give_back_on, is_revoked_on, join_on, winner_on};
-use hop_inner::{Knowing, Message, Shelving};
+use hop_inner::{Knowing, Message, Reach};
 use hop_machine::Who;
 use hop_run::Parcel;
 use hop_shelf::Shelf;
@@ -36,7 +36,7 @@ impl<'a, N: RunName> Drain<'a, N> {
     }
 
     // A range is recorded.
-    fn read_parcel<E: Shelving<N>>(
+    fn read_parcel<E: Reach<N>>(
         &self,
         reach: &mut E,
         shelf: Shelf<N>,
@@ -57,18 +57,18 @@ impl<'a, N: RunName> Drain<'a, N> {
     }
 
     // Nothing is recorded.
-    fn pass<E: Shelving<N>>(&self, reach: &mut E, shelf: Shelf<N>) -> Answer
+    fn pass<E: Reach<N>>(&self, reach: &mut E, shelf: Shelf<N>) -> Answer
         requires held { IsHeld self.now.number shelf (E.deeds reach.old) }
         requires ready { IsReady shelf }
         requires safe { Safe parts E.exact (passes self.now) (E.deeds reach.old) }
         ensures { Runs E.exact (passes self.now) (E.deeds reach.old) (self.now, said_answer result) (E.deeds reach.new) }
     {
-        give_back_on(reach, self.p, E::from_shelf(shelf));
+        give_back_on(reach, self.p, shelf);
         Answer::Worked
     }
 
     // The attempt won: that is recorded, unless it is already.
-    fn record_won<E: Shelving<N>>(
+    fn record_won<E: Reach<N>>(
         &self,
         reach: &mut E,
         shelf: Shelf<N>,
@@ -91,7 +91,7 @@ impl<'a, N: RunName> Drain<'a, N> {
     }
 
     // The attempt is revoked, if it is gone: that is recorded, unless it is already.
-    fn record_revoked<E: Shelving<N>>(
+    fn record_revoked<E: Reach<N>>(
         &self,
         reach: &mut E,
         shelf: Shelf<N>,
@@ -115,7 +115,7 @@ impl<'a, N: RunName> Drain<'a, N> {
     }
 
     // The board told who won the split of a notice.
-    fn read_verdict<E: Shelving<N>>(
+    fn read_verdict<E: Reach<N>>(
         &self,
         reach: &mut E,
         shelf: Shelf<N>,
@@ -137,7 +137,7 @@ impl<'a, N: RunName> Drain<'a, N> {
     }
 
     // A notice: the board is asked what became of the attempt.
-    fn read_notice<E: Shelving<N>>(
+    fn read_notice<E: Reach<N>>(
         &self,
         reach: &mut E,
         shelf: Shelf<N>,
@@ -159,7 +159,7 @@ impl<'a, N: RunName> Drain<'a, N> {
     }
 
     // A message from mapper `w`.
-    pub(crate) fn read<E: Shelving<N>>(
+    pub(crate) fn read<E: Reach<N>>(
         &self,
         reach: &mut E,
         shelf: Shelf<N>,

@@ -13,7 +13,7 @@ use crate::answer::Answer;
 use crate::drain::Drain;
 use hop_base::RunName;
 use hop_cut::Cuts;
-use hop_inner::{Reach, Shelving};
+use hop_inner::Reach;
 use hop_inner::steps::{record_on, send_cut_on};
 use hop_shelf::Shelf;
 
@@ -48,7 +48,7 @@ impl<'a, N: RunName> Drain<'a, N> {
     }
 
     // An event was added: the cuts that it makes due are sent, and it is recorded as the value is given back.
-    pub(crate) fn close<E: Shelving<N>>(
+    pub(crate) fn close<E: Reach<N>>(
         &self,
         reach: &mut E,
         shelf: Shelf<N>,
@@ -61,7 +61,7 @@ impl<'a, N: RunName> Drain<'a, N> {
         self.fixed();
         shelf.known();
         let sent = self.send_cuts(reach, &mut shelf);
-        record_on(reach, self.p, E::from_shelf(shelf));
+        record_on(reach, self.p, shelf);
         if sent { Answer::Worked } else { Answer::Stopped }
     }
 }

@@ -16,4 +16,3 @@ pub use keep::{Keep, Logged};
 pub use lane::{Full, LaneRule, Receiver, Sender};
 pub use message::{CutLane, Message, MessageLane};
 pub use reach::Reach;
-pub use shelved::Shelving;

@@ -4,7 +4,7 @@ use Rattle.std.proofs.lemmas.Option.{slice_get_read}
 use Rattle.hop_inner.specs.Messages.{said}
 use Rattle.hop_crew.specs.PlainWorlds.{grid_get, taken_at}
 use Rattle.hop_crew.proofs.Theres.{place_within, place_is, place_key}
-use Rattle.hop_crew.proofs.plain_world.PlainWorldReach.input.Goals as goal
+use Rattle.hop_crew.proofs.plain_world.PlainWorldShelfReach.input.Goals as goal
 
 pub returns : goal.returns
 returns g c =

@@ -3,7 +3,7 @@ use Rattle.hop_inner.specs.Setups.{setup_of}
 use Rattle.hop_inner.specs.Messages.{said_cut}
 use Rattle.hop_crew.specs.PlainWorlds.{deeds_of, cut_of}
 use Rattle.hop_crew.proofs.Meetings.{cut_meets, follows}
-use Rattle.hop_crew.proofs.plain_world.PlainWorldReach.cut_meet.Goals as goal
+use Rattle.hop_crew.proofs.plain_world.PlainWorldShelfReach.cut_meet.Goals as goal
 
 pub returns : goal.returns
 returns g c =

@@ -1,7 +1,7 @@
 use Rattle.hop_inner.specs.Setups.{setup_of}
 use Rattle.hop_crew.specs.PlainWorlds.{lane_of, cut_of, keep_of}
 use Rattle.hop_crew.proofs.Meetings.{gathers}
-use Rattle.hop_crew.proofs.plain_world.PlainWorldReach.gather.Goals as goal
+use Rattle.hop_crew.proofs.plain_world.PlainWorldShelfReach.gather.Goals as goal
 
 pub returns : goal.returns
 returns g c =

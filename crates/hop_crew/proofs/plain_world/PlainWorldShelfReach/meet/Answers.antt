@@ -3,7 +3,7 @@ use Rattle.hop_inner.specs.Setups.{setup_of}
 use Rattle.hop_inner.specs.Messages.{said}
 use Rattle.hop_crew.specs.PlainWorlds.{deeds_of, lane_of}
 use Rattle.hop_crew.proofs.Meetings.{meets, follows}
-use Rattle.hop_crew.proofs.plain_world.PlainWorldReach.meet.Goals as goal
+use Rattle.hop_crew.proofs.plain_world.PlainWorldShelfReach.meet.Goals as goal
 
 pub returns : goal.returns
 returns g c =
