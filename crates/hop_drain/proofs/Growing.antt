@@ -14,7 +14,6 @@ use Rattle.hop_event.specs.Legal.{Rules, Follows, MayCome, IsRange, IsWorker, Go
 use Rattle.hop_event.specs.Coverage.{first_reached}
 use Rattle.hop_shelf.specs.Names.{rules_of}
 use Rattle.hop_shelf.specs.Journal.{JournalValue, AddsEvent}
-use Rattle.hop_shelf.specs.Kept.{}
 use Rattle.hop_shelf.specs.declared.kept.Kept.{Kept}
 use Rattle.hop_shelf.specs.declared.shelf.Arrived.{Arrived}
 use Rattle.hop_shelf.specs.declared.shelf.Arrived.TheVariants.{Taken, Ignored}
@@ -22,11 +21,14 @@ use Rattle.hop_shelf.specs.Sound.{ShelfValue, IsSound, MayGrow, Arrives}
 use Rattle.hop_machine.specs.declared.words.Turn.{Turn}
 use Rattle.hop_machine.specs.step.Steps.{Setup, Deeds, Record}
 use Rattle.hop_machine.specs.step.Steps as machine
-use Rattle.hop_machine.specs.actors.ReducerTurns.{Reducer, notes, marks_due, goes_on, range_event, lane_via}
+use Rattle.hop_machine.specs.actors.ReducerTurns.{Reducer, notes, marks_due, goes_on, range_event, lane_via, lags}
+use Rattle.hop_machine.specs.declared.words.Turn.TheVariants.{Worked}
+use Rattle.hop_inner.specs.Locks.{RecordsOne}
 use Rattle.hop_machine.specs.home.Conditions.{Safe, May}
 use Rattle.hop_machine.proofs.step.Programs.{risk_steps}
 use Rattle.hop_inner.specs.Setups.{parts, setup_of}
-use Rattle.hop_drain.specs.Drains.{notes_last}
+use Rattle.hop_drain.specs.Drains.{notes_last, restarts_now}
+use Rattle.hop_drain.proofs.Cutting.{records_ran}
 use Rattle.hop_drain.specs.Held.{IsHeld, IsAdded, IsReady}
 
 -- # What a shelf of the run says
@@ -129,3 +131,15 @@ arrived_adds old part via run Taken new got =
 arrived_adds old part via run (Ignored have) new got =
     let ev : AddsEvent old.journal (Ignore part via (upto part.split part.attempt old.journal.events)) new.journal = subst (λ n. AddsEvent old.journal (Ignore part via n) new.journal) got.1 got.2 in
     (subst (λ b. AddsEvent old.journal (if b then Arrive part via else Ignore part via (upto part.split part.attempt old.journal.events)) new.journal) (sym (goes_no old.journal.events part got.0)) ev, got.4)
+
+-- # Restarts
+
+pub restart_ran : (e : Bool) (r y : Reducer) (s now : ShelfValue) (q : ℕ) (a b : Deeds) → q ≡ r.number → y ≡ lags r → IsHeld r.number s a → AddsEvent s.journal Restart now.journal
+    → now.journal.due ≡ marks_due r.setup now.journal.events → ((ev : Event) → now.journal.events ≡ ev ∷ (a.did.keeps q).events → RecordsOne e q ev now.journal.due a b)
+    → let x : Reducer × Turn = (y, Worked) in machine.Runs e (restarts_now r s.journal.events) a x b
+restart_ran e r y s now q a b here is held adds due one =
+    let x : Reducer × Turn = (lags r, Worked) in
+    let at_r = subst (λ k. (ev : Event) → now.journal.events ≡ ev ∷ (a.did.keeps k).events → RecordsOne e k ev now.journal.due a b) here one in
+    let got = at_r Restart (adds.events ∙ (λ i. Restart ∷ held.events i)) in
+    let ran = records_ran e r Restart (marks_due r.setup (Restart ∷ s.journal.events)) x a b (subst (λ d. RecordsOne e r.number Restart d a b) (due ∙ ap (marks_due r.setup) adds.events) got) in
+    subst (λ z. let x : Reducer × Turn = (z, Worked) in machine.Runs e (restarts_now r s.journal.events) a x b) (sym is) ran
