@@ -1,3 +1,4 @@
 pub mod Cutting
 pub mod Growing
+pub mod Lanes
 pub mod Safety

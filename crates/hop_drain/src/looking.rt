@@ -25,7 +25,8 @@ impl<'a, N: RunName> Drain<'a, N> {
         ensures next { result ≡ lane_after self.now.setup.workers w }
         ensures below { result < self.now.setup.workers }
     {
-        if w + 1 == self.settings.workers {
+        let workers = self.settings.workers;
+        if w + 1 == workers {
             0
         } else {
             w + 1
@@ -66,10 +67,11 @@ impl<'a, N: RunName> Drain<'a, N> {
         requires safe { Safe parts E.exact (looks self.old shelf.journal.events self.old.setup.workers self.old.next) (E.deeds reach.old) }
         ensures { Runs E.exact (looks self.old shelf.journal.events self.old.setup.workers self.old.next) (E.deeds reach.old) (self.new, said_answer result) (E.deeds reach.new) }
     {
+        let p = self.p;
         let mut w = self.next;
         let mut left = self.settings.workers;
         while left > 0 {
-            match take_on(reach, w, self.p) {
+            match take_on(reach, w, p) {
                 Some(message) => return self.serve(reach, shelf, w, message),
                 None => {
                     w = self.lane_after(w);
@@ -77,7 +79,7 @@ impl<'a, N: RunName> Drain<'a, N> {
                 }
             }
         }
-        give_back_on(reach, self.p, shelf);
+        give_back_on(reach, p, shelf);
         Answer::Idle
     }
 
@@ -104,6 +106,7 @@ impl<'a, N: RunName> Drain<'a, N> {
         requires safe { Safe parts E.exact (acts self.old shelf.journal.events) (E.deeds reach.old) }
         ensures { Runs E.exact (acts self.old shelf.journal.events) (E.deeds reach.old) (self.new, said_answer result) (E.deeds reach.new) }
     {
+        self.fixed();
         shelf.known();
         if shelf.restart_due() {
             self.restart(reach, shelf)
