@@ -8,7 +8,7 @@ use Rattle.hop_machine.specs.declared.words.Turn.{Turn}
 use Rattle.hop_machine.specs.declared.words.Turn.TheVariants.{Worked, Idle, Stopped}
 use Rattle.hop_machine.specs.declared.words.Message.{Message}
 use Rattle.hop_machine.specs.step.Steps.{Setup, Value, Deeds, Prog, Then, Steps, Runs, Take, Hold, TryHold, GiveBack, Kept, Risk}
-use Rattle.hop_machine.specs.actors.ReducerTurns.{Reducer, looks, reads, lane_after, gives_back, must_restart, holds}
+use Rattle.hop_machine.specs.actors.ReducerTurns.{Reducer, looks, reads, lane_after, gives_back, must_restart, holds, tries, reducer_turn}
 use Rattle.hop_machine.specs.home.Conditions.{Safe, May}
 use Rattle.hop_machine.proofs.step.Programs.{risk_steps}
 use Rattle.hop_machine.proofs.step.Told.{at1-here}
@@ -62,3 +62,27 @@ pub try_held : (e : Bool) (p : ℕ) (s : ShelfValue) (a m : Deeds) → Steps e (
 try_held e p s a m st number =
     let here : m.did.keeps p ≡ record (a.did.keeps p) { held = true } = (λ i. (st.did i).keeps p) ∙ at1-here a.did.keeps p (record (a.did.keeps p) { held = true }) in
     record { number = number; held = λ i. (here i).held; events = st.tells.events ∙ sym (λ i. (here i).events) }
+
+-- # The two ways to begin
+
+module _ (e : Bool) (r : Reducer) where
+  abbrev Begins : Bool → Prog (Reducer × Turn)
+  Begins late = if late then Then (Hold r.number) (λ v. holds r v) else Then (TryHold r.number) (λ o. tries r o)
+
+  pub late_safe : r.late ≡ true → (v : Value) (a m : Deeds) → Safe parts e (reducer_turn r) a → Steps e (Hold r.number) v a m → Safe parts e (holds r v) m
+  late_safe late v a m safe st = let now : Safe parts e (Begins true) a = subst (λ b. Safe parts e (Begins b) a) late safe in now.1 v m st
+
+  pub late_ran : r.late ≡ true → (v : Value) (a m b : Deeds) (x : Reducer × Turn) → Steps e (Hold r.number) v a m → Runs e (holds r v) m x b → Runs e (reducer_turn r) a x b
+  late_ran late v a m b x st ran = let now : Runs e (Begins true) a x b = (v, m, st, ran) in subst (λ l. Runs e (Begins l) a x b) (sym late) now
+
+  pub soon_may : r.late ≡ false → (a : Deeds) → Safe parts e (reducer_turn r) a → May parts (TryHold r.number) a
+  soon_may late a safe = let now : Safe parts e (Begins false) a = subst (λ b. Safe parts e (Begins b) a) late safe in now.0
+
+  pub soon_safe : r.late ≡ false → (v : Value) (a m : Deeds) → Safe parts e (reducer_turn r) a → Steps e (TryHold r.number) (Some v) a m → Safe parts e (holds r v) m
+  soon_safe late v a m safe st = let now : Safe parts e (Begins false) a = subst (λ b. Safe parts e (Begins b) a) late safe in now.1 (Some v) m st
+
+  pub soon_ran : r.late ≡ false → (v : Value) (a m b : Deeds) (x : Reducer × Turn) → Steps e (TryHold r.number) (Some v) a m → Runs e (holds r v) m x b → Runs e (reducer_turn r) a x b
+  soon_ran late v a m b x st ran = let now : Runs e (Begins false) a x b = (Some v, m, st, ran) in subst (λ l. Runs e (Begins l) a x b) (sym late) now
+
+  pub busy_ran : r.late ≡ false → (a m : Deeds) → Steps e (TryHold r.number) None a m → let x : Reducer × Turn = (r, Idle) in Runs e (reducer_turn r) a x m
+  busy_ran late a m st = let x : Reducer × Turn = (r, Idle) in let now : Runs e (Begins false) a x m = (None, m, st, (refl, refl)) in subst (λ l. Runs e (Begins l) a x m) (sym late) now

@@ -3,6 +3,7 @@
 
 mod answer;
 pub mod drain;
+mod holding;
 mod looking;
 mod reading;
 mod recording;

@@ -15,13 +15,13 @@ pub restart-requires-clause-safe : goal.restart-requires-clause-safe
 restart-requires-clause-safe g c =
     let N = g.N.RunName in let r = c.args.self.now in let s = c.args.shelf in let st = setup_of N.records N.script N.settings in let h = s.journal.events in let a = g.E.Reach.deeds c.args.reach.now in
     let of = of_sound N.records N.script N.settings N.tells N.job.reduced (pairs_of N.job N.records N.settings s.p) s c.known.ensures.sound in
-    let must : must_restart r.setup r.number h ≡ true = sym (must_is st r s c.fixed.ensures c.requires.held.number of) ∙ sym c.if-restart_due.ensures ∙ c.if-restart_due.true in
+    let must : must_restart r.setup r.number h ≡ true = sym (must_is st r s c.fixed.ensures c.requires.held.number of) ∙ sym c.restart_due.ensures ∙ c.if-restart_due.true in
     subst (λ b. Safe parts g.E.Reach.exact (if b then restarts_now r h else looks r h r.setup.workers r.next) a) must c.requires.safe
 
 pub returns-then-restart_due : goal.returns-then-restart_due
 returns-then-restart_due g c =
     let N = g.N.RunName in let e = g.E.Reach.exact in let r = c.args.self.now in let s = c.args.shelf in let st = setup_of N.records N.script N.settings in let h = s.journal.events in let a = g.E.Reach.deeds c.args.reach.now in
     let of = of_sound N.records N.script N.settings N.tells N.job.reduced (pairs_of N.job N.records N.settings s.p) s c.known.ensures.sound in
-    let must : must_restart r.setup r.number h ≡ true = sym (must_is st r s c.fixed.ensures c.requires.held.number of) ∙ sym c.if-restart_due.ensures ∙ c.if-restart_due.true in
+    let must : must_restart r.setup r.number h ≡ true = sym (must_is st r s c.fixed.ensures c.requires.held.number of) ∙ sym c.restart_due.ensures ∙ c.if-restart_due.true in
     let x : Reducer × Turn = (c.restart.new.self, said_answer c.restart.result) in let d = g.E.Reach.deeds c.restart.new.reach in
     subst (λ b. Runs e (if b then restarts_now r h else looks r h r.setup.workers r.next) a x d) (sym must) c.restart.ensures
