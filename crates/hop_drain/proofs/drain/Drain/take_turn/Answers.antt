@@ -15,10 +15,5 @@ go_on-requires-clause-no_cut g c = c.hold-shelf.ensures.step.tells.due ∙ c.req
 
 pub go_on-requires-clause-safe : goal.go_on-requires-clause-safe
 go_on-requires-clause-safe g c =
-    late_safe g.E.Reach.exact c.args.self.now (ap (λ (r : Reducer). r.late) (sym c.self.view_is) ∙ c.if-late.true) (value_of c.hold-shelf.result) (g.E.Reach.deeds c.args.reach.now) (g.E.Reach.deeds c.hold-shelf.new.reach) c.requires.safe c.hold-shelf.ensures.step
+    late_safe g.E.Reach.exact c.args.self.now (ap (λ (r : Reducer). r.late) (sym c.self.view_is) ∙ c.if-self.true) (value_of c.hold-shelf.result) (g.E.Reach.deeds c.args.reach.now) (g.E.Reach.deeds c.hold-shelf.new.reach) c.requires.safe c.hold-shelf.ensures.step
 
-pub returns-then-late : goal.returns-then-late
-returns-then-late g c =
-    let x : Reducer × Turn = (c.go_on.new.self, said_answer c.go_on.result) in
-    late_ran g.E.Reach.exact c.args.self.now (ap (λ (r : Reducer). r.late) (sym c.self.view_is) ∙ c.if-late.true) (value_of c.hold-shelf.result) (g.E.Reach.deeds c.args.reach.now) (g.E.Reach.deeds c.hold-shelf.new.reach) (g.E.Reach.deeds c.go_on.new.reach) x
-    c.hold-shelf.ensures.step c.go_on.ensures
