@@ -21,13 +21,12 @@ use Rattle.hop_shelf.specs.Sound.{ShelfValue, IsSound, MayGrow, Arrives}
 use Rattle.hop_machine.specs.declared.words.Turn.{Turn}
 use Rattle.hop_machine.specs.step.Steps.{Setup, Deeds, Record}
 use Rattle.hop_machine.specs.step.Steps as machine
-use Rattle.hop_machine.specs.actors.ReducerTurns.{Reducer, notes, marks_due, goes_on, range_event, lane_via, lags}
-use Rattle.hop_machine.specs.declared.words.Turn.TheVariants.{Worked}
+use Rattle.hop_machine.specs.actors.ReducerTurns.{Reducer, notes, marks_due, goes_on, range_event, lane_via, lags, restarts}
 use Rattle.hop_inner.specs.Locks.{RecordsOne}
 use Rattle.hop_machine.specs.home.Conditions.{Safe, May}
 use Rattle.hop_machine.proofs.step.Programs.{risk_steps}
 use Rattle.hop_inner.specs.Setups.{parts, setup_of}
-use Rattle.hop_drain.specs.Drains.{notes_last, restarts_now}
+use Rattle.hop_drain.specs.Drains.{notes_last}
 use Rattle.hop_drain.proofs.Cutting.{records_ran}
 use Rattle.hop_drain.specs.Held.{IsHeld, IsAdded, IsReady}
 
@@ -134,12 +133,15 @@ arrived_adds old part via run (Ignored have) new got =
 
 -- # Restarts
 
-pub restart_ran : (e : Bool) (r y : Reducer) (s now : ShelfValue) (q : ℕ) (a b : Deeds) → q ≡ r.number → y ≡ lags r → IsHeld r.number s a → AddsEvent s.journal Restart now.journal
+pub restart_one : (e : Bool) (r : Reducer) (s now : ShelfValue) (q : ℕ) (a b : Deeds) → q ≡ r.number → IsHeld r.number s a → AddsEvent s.journal Restart now.journal
     → now.journal.due ≡ marks_due r.setup now.journal.events → ((ev : Event) → now.journal.events ≡ ev ∷ (a.did.keeps q).events → RecordsOne e q ev now.journal.due a b)
-    → let x : Reducer × Turn = (y, Worked) in machine.Runs e (restarts_now r s.journal.events) a x b
-restart_ran e r y s now q a b here is held adds due one =
-    let x : Reducer × Turn = (lags r, Worked) in
+    → RecordsOne e r.number Restart (marks_due r.setup (Restart ∷ s.journal.events)) a b
+restart_one e r s now q a b here held adds due one =
     let at_r = subst (λ k. (ev : Event) → now.journal.events ≡ ev ∷ (a.did.keeps k).events → RecordsOne e k ev now.journal.due a b) here one in
-    let got = at_r Restart (adds.events ∙ (λ i. Restart ∷ held.events i)) in
-    let ran = records_ran e r Restart (marks_due r.setup (Restart ∷ s.journal.events)) x a b (subst (λ d. RecordsOne e r.number Restart d a b) (due ∙ ap (marks_due r.setup) adds.events) got) in
-    subst (λ z. let x : Reducer × Turn = (z, Worked) in machine.Runs e (restarts_now r s.journal.events) a x b) (sym is) ran
+    subst (λ d. RecordsOne e r.number Restart d a b) (due ∙ ap (marks_due r.setup) adds.events) (at_r Restart (adds.events ∙ (λ i. Restart ∷ held.events i)))
+
+pub restart_ran : {A : Type 0} (e : Bool) (r y : Reducer) (h : List Event) (a b : Deeds) (t : A) → y ≡ lags r → RecordsOne e r.number Restart (marks_due r.setup (Restart ∷ h)) a b
+    → let x : Reducer × A = (y, t) in let z : Reducer × A = (lags r, t) in machine.Runs e (restarts r h z) a x b
+restart_ran {A} e r y h a b t is one =
+    let z : Reducer × A = (lags r, t) in
+    subst (λ k. let x : Reducer × A = (k, t) in machine.Runs e (restarts r h z) a x b) (sym is) (records_ran e r Restart (marks_due r.setup (Restart ∷ h)) z a b one)

@@ -2,6 +2,7 @@
 #![tactic(auto)]
 
 mod answer;
+mod calls;
 pub mod drain;
 mod holding;
 mod looking;

@@ -1,12 +1,14 @@
 //! A reducer's turn, from the value that it holds on.
-ghost use Rattle.std.specs.Prelude.{◌≡◌, ◌<◌, [], true};
-ghost use Rattle.hop_machine.specs.step.Steps.{Runs};
-ghost use Rattle.hop_machine.specs.actors.ReducerTurns.{looks, reads, lane_after, holds};
-ghost use Rattle.hop_machine.specs.home.Conditions.{Safe};
+ghost use Rattle.std.specs.Prelude.{◌≡◌, ◌<◌, [], ◌∷◌, true};
+ghost use Rattle.hop_event.specs.declared.event.Event.TheVariants.{Restart};
+ghost use Rattle.hop_machine.specs.step.Steps.{Runs, Record};
+ghost use Rattle.hop_machine.specs.actors.ReducerTurns.{looks, reads, lane_after, holds, lags, marks_due};
+ghost use Rattle.hop_machine.specs.home.Conditions.{Safe, May};
 ghost use Rattle.hop_inner.specs.Setups.{parts};
 ghost use Rattle.hop_inner.specs.Messages.{said, FitsAt};
+ghost use Rattle.hop_inner.specs.Locks.{RecordsOne};
 ghost use Rattle.hop_drain.specs.Answers.{said_answer};
-ghost use Rattle.hop_drain.specs.Drains.{acts, restarts_now, served};
+ghost use Rattle.hop_drain.specs.Drains.{acts, served};
 ghost use Rattle.hop_drain.specs.Held.{IsHeld, IsReady};
 ghost use Rattle.hop_inner.specs.Shelved.{value_of};
 ghost use Rattle.hop_event.specs.Legal.{restart_due};
@@ -83,20 +85,20 @@ impl<'a, N: RunName> Drain<'a, N> {
         Answer::Idle
     }
 
-    // The restart that is due.
-    fn restart<E: Reach<N>>(&mut self, reach: &mut E, shelf: Shelf<N>) -> Answer
+    // The restart that is due is recorded; its cuts are due then.
+    pub(crate) fn restart<E: Reach<N>>(&mut self, reach: &mut E, shelf: Shelf<N>)
         requires held { IsHeld self.old.number shelf (E.deeds reach.old) }
         requires ready { IsReady shelf }
         requires due { restart_due shelf.journal.restarts shelf.journal.events ≡ true }
-        requires safe { Safe parts E.exact (restarts_now self.old shelf.journal.events) (E.deeds reach.old) }
-        ensures { Runs E.exact (restarts_now self.old shelf.journal.events) (E.deeds reach.old) (self.new, said_answer result) (E.deeds reach.new) }
+        requires may { May parts (Record self.old.number Restart) (E.deeds reach.old) }
+        ensures lags { self.new ≡ lags self.old }
+        ensures records { RecordsOne E.exact self.old.number Restart (marks_due self.old.setup (Restart ∷ shelf.journal.events)) (E.deeds reach.old) (E.deeds reach.new) }
     {
         let mut shelf = shelf;
         shelf.known();
         shelf.restart();
         record_on(reach, self.p, shelf);
         self.lagging = true;
-        Answer::Worked
     }
 
     // A restart that is due, or one message.
@@ -109,7 +111,8 @@ impl<'a, N: RunName> Drain<'a, N> {
         self.fixed();
         shelf.known();
         if shelf.restart_due() {
-            self.restart(reach, shelf)
+            self.restart(reach, shelf);
+            Answer::Worked
         } else {
             self.look(reach, shelf)
         }
