@@ -1,3 +1,4 @@
+pub mod Calling
 pub mod Cutting
 pub mod Growing
 pub mod Lanes
