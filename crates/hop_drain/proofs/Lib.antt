@@ -3,3 +3,4 @@ pub mod Cutting
 pub mod Growing
 pub mod Lanes
 pub mod Safety
+pub mod Sheets
