@@ -24,6 +24,8 @@ use Rattle.hop_machine.specs.step.Steps as machine
 use Rattle.hop_machine.specs.actors.ReducerTurns.{Reducer, notes, marks_due, goes_on, range_event, lane_via, lags, restarts}
 use Rattle.hop_inner.specs.Locks.{RecordsOne}
 use Rattle.hop_machine.specs.home.Conditions.{Safe, May}
+use Rattle.hop_machine.specs.home.Said.{history_of}
+use Rattle.hop_machine.specs.home.ReducerHome.{MayPull}
 use Rattle.hop_machine.proofs.step.Programs.{risk_steps}
 use Rattle.hop_inner.specs.Setups.{parts, setup_of}
 use Rattle.hop_drain.specs.Drains.{notes_last}
@@ -145,3 +147,27 @@ pub restart_ran : {A : Type 0} (e : Bool) (r y : Reducer) (h : List Event) (a b 
 restart_ran {A} e r y h a b t is one =
     let z : Reducer × A = (lags r, t) in
     subst (λ k. let x : Reducer × A = (k, t) in machine.Runs e (restarts r h z) a x b) (sym is) (records_ran e r Restart (marks_due r.setup (Restart ∷ h)) z a b one)
+
+-- # Pulls
+
+both_true : (x y : Bool) → (not x && y) ≡ true → (x ≡ false) × (y ≡ true)
+both_true false true h = (refl, refl)
+both_true false false h = absurd (false≢true h)
+both_true true y h = absurd (false≢true h)
+
+-- a range that may be pulled goes on
+pub pull_goes : (r : Reducer) (part : Part) (a : Deeds) (h : List Event) → history_of a r.number ≡ h → MayPull r part a → GoesOn h part
+pull_goes r part a h is may =
+    let old = history_of a r.number in
+    let both = both_true (is_revoked part.split part.attempt old) (no_other (winner part.split old) part.attempt) may.wants in
+    let there : GoesOn old part = record { alive = both.0; alone = both.1; joined = may.joined } in
+    subst (λ z. GoesOn z part) is there
+
+-- and is taken
+pub arrived_taken : (old : ShelfValue) (part : Part) (via : Via) (run : RunValue) (x : Arrived) (new : ShelfValue) → GoesOn old.journal.events part → Arrives old part via run x new → AddsEvent old.journal (Arrive part via) new.journal × (new.p ≡ old.p)
+arrived_taken old part via run Taken new goes got = (got.1, got.3)
+arrived_taken old part via run (Ignored have) new goes got = absurd (got.0 goes)
+
+-- room for one event more changes nothing that the lock shows
+pub roomy_held : (p spare : ℕ) (s now : ShelfValue) (a : Deeds) → now.p ≡ s.p → now.journal ≡ record s.journal { spare = spare } → IsHeld p s a → IsHeld p now a
+roomy_held p spare s now a number journal held = record { number = number ∙ held.number; held = held.held; events = (λ i. (journal i).events) ∙ held.events }

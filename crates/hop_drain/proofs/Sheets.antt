@@ -31,12 +31,12 @@ sheet_added sheets i d heads heads' sheet lt h is more =
     ∙ ap (ord pair_cmp) (sym (flat_map-append (λ (s : List Pair). s) (take i sheets) (here ∷ [])) ∙ ap (flat_map (λ (s : List Pair). s)) (sym (take_more sheets i d lt)))
 
 -- their pairs in order stand for what they stand for together
-pub sheets_hold : (reduce : List ℕ → List Val → List ℕ) (pairs_of : Part → List Pair) (part : Part) (sheets : List (List Pair)) (flat : List Pair) (parts : List Part) (run : RunValue)
-    → flat ≡ ord pair_cmp (flat_map (λ s. s) sheets) → All IsValidPair flat → run ≡ record { sheet = flat; parts = parts } → parts ≡ part ∷ [] → TogetherStand reduce sheets (pairs_of part) → RunHolds reduce pairs_of run
-sheets_hold reduce pairs_of part sheets flat parts run is valid made one stands =
+pub sheets_hold : (reduce : List ℕ → List Val → List ℕ) (pairs_of : Part → List Pair) (part : Part) (sheets : List (List Pair)) (flat : List Pair) (run : RunValue)
+    → flat ≡ ord pair_cmp (flat_map (λ s. s) sheets) → All IsValidPair flat → run.sheet ≡ flat → run.parts ≡ part ∷ [] → TogetherStand reduce sheets (pairs_of part) → RunHolds reduce pairs_of run
+sheets_hold reduce pairs_of part sheets flat run is valid made one stands =
     let all : List Pair = flat_map (λ (s : List Pair). s) sheets in
     let same : IsPermutation all flat = subst (λ (ps : List Pair). IsPermutation all ps) (sym is) (ord_permutes all) in
     let whole : StandsFor reduce flat (pairs_of part) = stands_through reduce flat all (pairs_of part) (stands_sorted reduce all flat same) stands in
     let at_part : StandsFor reduce flat (flat_map pairs_of (part ∷ [])) = subst (λ ps. StandsFor reduce flat ps) (sym (append-nil (pairs_of part))) whole in
     let here : RunHolds reduce pairs_of (record { sheet = flat; parts = part ∷ [] }) = record { valid = valid; stands = at_part } in
-    subst (λ (r : RunValue). RunHolds reduce pairs_of r) (sym (made ∙ (λ i. record { sheet = flat; parts = one i }))) here
+    subst (λ (r : RunValue). RunHolds reduce pairs_of r) (sym (λ i. record { sheet = made i; parts = one i })) here

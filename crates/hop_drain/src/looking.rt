@@ -28,11 +28,7 @@ impl<'a, N: RunName> Drain<'a, N> {
         ensures below { result < self.now.setup.workers }
     {
         let workers = self.settings.workers;
-        if w + 1 == workers {
-            0
-        } else {
-            w + 1
-        }
+        if w + 1 == workers { 0 } else { w + 1 }
     }
 
     // The lane after this one is looked at first from now on.
@@ -119,11 +115,7 @@ impl<'a, N: RunName> Drain<'a, N> {
     }
 
     // Room for one event is reserved first.
-    pub(crate) fn go_on<E: Reach<N>>(
-        &mut self,
-        reach: &mut E,
-        shelf: Shelf<N>,
-    ) -> Answer
+    pub(crate) fn go_on<E: Reach<N>>(&mut self, reach: &mut E, shelf: Shelf<N>) -> Answer
         requires held { IsHeld self.old.number shelf (E.deeds reach.old) }
         requires no_cut { shelf.journal.due ≡ [] }
         requires safe { Safe parts E.exact (holds self.old (value_of shelf)) (E.deeds reach.old) }

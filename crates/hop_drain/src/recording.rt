@@ -48,11 +48,7 @@ impl<'a, N: RunName> Drain<'a, N> {
     }
 
     // An event was added: the cuts that it makes due are sent, and it is recorded as the value is given back.
-    pub(crate) fn close<E: Reach<N>>(
-        &self,
-        reach: &mut E,
-        shelf: Shelf<N>,
-    ) -> Answer
+    pub(crate) fn close<E: Reach<N>>(&self, reach: &mut E, shelf: Shelf<N>) -> Answer
         requires added { IsAdded self.now.number shelf (E.deeds reach.old) }
         requires safe { Safe parts E.exact (notes_last self.now shelf.journal.events) (E.deeds reach.old) }
         ensures { Runs E.exact (notes_last self.now shelf.journal.events) (E.deeds reach.old) (self.now, said_answer result) (E.deeds reach.new) }
@@ -62,6 +58,10 @@ impl<'a, N: RunName> Drain<'a, N> {
         shelf.known();
         let sent = self.send_cuts(reach, &mut shelf);
         record_on(reach, self.p, shelf);
-        if sent { Answer::Worked } else { Answer::Stopped }
+        if sent {
+            Answer::Worked
+        } else {
+            Answer::Stopped
+        }
     }
 }
