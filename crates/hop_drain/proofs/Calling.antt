@@ -5,9 +5,9 @@ use Rattle.hop_event.specs.declared.event.Event.{Event}
 use Rattle.hop_event.specs.declared.event.Event.TheVariants.{Restart}
 use Rattle.hop_event.specs.Legal.{IsWon, AllSettled}
 use Rattle.hop_shelf.specs.Finish.{IsDone}
-use Rattle.hop_shelf.specs.Journal.{JournalValue, AddsEvent}
+use Rattle.hop_shelf.specs.Journal.{JournalValue}
 use Rattle.hop_shelf.specs.Sound.{ShelfValue}
-use Rattle.hop_machine.specs.step.Steps.{Value, Deeds, Prog, Then, Steps, Runs, Hold, GiveBack, Record, KeepEnd}
+use Rattle.hop_machine.specs.step.Steps.{Deeds, Prog, Then, Steps, Runs, Hold, GiveBack, Record, KeepEnd}
 use Rattle.hop_machine.specs.actors.ReducerTurns.{Reducer, marks_due, records, gives_back, with_room, send_cuts, send_due, still_due, restarts, lags, must_restart, restart_if_due}
 use Rattle.hop_machine.specs.home.Said.{history_of}
 use Rattle.hop_machine.specs.home.Conditions.{Safe, May}

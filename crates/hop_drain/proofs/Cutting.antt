@@ -11,9 +11,9 @@ use Rattle.hop_shelf.specs.Cuts.{IsCut}
 use Rattle.hop_shelf.specs.Journal.{JournalValue}
 use Rattle.hop_shelf.specs.Sound.{ShelfValue}
 use Rattle.hop_machine.specs.declared.words.Turn.{Turn}
-use Rattle.hop_machine.specs.step.Steps.{Setup, Value, Risk, CutSaid, Deeds, Prog, Steps, Runs, Done, Then, and_then, SendCut, Record}
+use Rattle.hop_machine.specs.step.Steps.{Setup, Value, CutSaid, Deeds, Prog, Steps, Runs, Done, Then, and_then, SendCut}
 use Rattle.hop_machine.specs.actors.ReducerTurns.{Reducer, cut_after, each_cut, send_cuts, still_due, marks_due, notes, records, works}
-use Rattle.hop_machine.specs.home.Conditions.{Safe, May}
+use Rattle.hop_machine.specs.home.Conditions.{Safe}
 use Rattle.hop_machine.proofs.step.Programs.{Runs-and_then, risk_steps}
 use Rattle.hop_inner.specs.Messages.{said_cut}
 use Rattle.hop_inner.specs.Locks.{RecordsOne, AddsOne}
@@ -21,7 +21,7 @@ use Rattle.hop_inner.specs.Setups.{parts}
 use Rattle.hop_inner.specs.Shelved.{value_of}
 use Rattle.hop_drain.specs.Drains.{each_said, notes_last}
 use Rattle.hop_drain.specs.Held.{IsAdded, with_due}
-use Rattle.hop_drain.proofs.Safety.{safe_first, safe_after, safe_risk}
+use Rattle.hop_drain.proofs.Safety.{safe_first, safe_after}
 
 -- # One cut after another
 

@@ -1,27 +1,26 @@
 -- Which events may come, and what the shelf asks of them.
-use Rattle.std.proofs.Common.{◌≡◌, ◌≢◌, ℕ, Bool, true, false, List, [], ◌∷◌, refl, sym, ap, ◌∙◌, subst, ◌&&◌, not, ◌==◌, if◌then◌else◌}
-use Rattle.std.proofs.lemmas.Bool.{eq-eqb, eqb-true, false≢true, true≢false}
+use Rattle.std.proofs.Common.{◌≡◌, ℕ, Bool, true, false, List, ◌∷◌, refl, sym, ap, ◌∙◌, subst, ◌&&◌, not, ◌==◌, if◌then◌else◌}
+use Rattle.std.proofs.lemmas.Bool.{eq-eqb, eqb-true, false≢true}
 use Rattle.hop_base.specs.Run.{ScriptLines, RunSettings, restarts_of}
 use Rattle.hop_base.specs.declared.value.Val.{Val}
 use Rattle.hop_base.specs.declared.value.Pair.{Pair}
 use Rattle.hop_base.specs.declared.part.Part.{Part}
 use Rattle.hop_run.specs.Runs.{RunValue}
 use Rattle.hop_event.specs.declared.event.Event.{Event}
-use Rattle.hop_event.specs.declared.event.Event.TheVariants.{Arrive, Ignore, Won, Revoked, Restart, Finish}
+use Rattle.hop_event.specs.declared.event.Event.TheVariants.{Arrive, Ignore, Restart}
 use Rattle.hop_event.specs.declared.event.Via.{Via}
 use Rattle.hop_event.specs.History.{upto, winner, is_revoked}
 use Rattle.hop_event.specs.Legal.{Rules, Follows, MayCome, IsRange, IsWorker, GoesOn, no_other, is_restart, restart_due}
 use Rattle.hop_event.specs.Coverage.{first_reached}
 use Rattle.hop_shelf.specs.Names.{rules_of}
 use Rattle.hop_shelf.specs.Journal.{JournalValue, AddsEvent}
-use Rattle.hop_shelf.specs.declared.kept.Kept.{Kept}
 use Rattle.hop_shelf.specs.declared.shelf.Arrived.{Arrived}
 use Rattle.hop_shelf.specs.declared.shelf.Arrived.TheVariants.{Taken, Ignored}
 use Rattle.hop_shelf.specs.Sound.{ShelfValue, IsSound, MayGrow, Arrives}
 use Rattle.hop_machine.specs.declared.words.Turn.{Turn}
 use Rattle.hop_machine.specs.step.Steps.{Setup, Deeds, Record}
 use Rattle.hop_machine.specs.step.Steps as machine
-use Rattle.hop_machine.specs.actors.ReducerTurns.{Reducer, notes, marks_due, goes_on, range_event, lane_via, lags, restarts}
+use Rattle.hop_machine.specs.actors.ReducerTurns.{Reducer, notes, marks_due, goes_on, range_event, lags, restarts}
 use Rattle.hop_inner.specs.Locks.{RecordsOne}
 use Rattle.hop_machine.specs.home.Conditions.{Safe, May}
 use Rattle.hop_machine.specs.home.Said.{history_of}

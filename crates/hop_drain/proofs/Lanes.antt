@@ -1,20 +1,19 @@
 -- The lanes in turn, and what a turn begins with.
-use Rattle.std.proofs.Common.{◌≡◌, ℕ, zero, suc, ◌-◌, ◌<◌, ◌≤◌, Bool, true, false, List, [], ◌∷◌, Option, Some, None, refl, sym, ap, ◌∙◌, subst, arith, if◌then◌else◌}
+use Rattle.std.proofs.Common.{◌≡◌, ℕ, zero, suc, ◌-◌, ◌<◌, ◌≤◌, Bool, true, false, List, [], Some, None, refl, sym, ap, ◌∙◌, subst, arith, if◌then◌else◌}
 use Rattle.hop_base.specs.Run.{restarts_of}
 use Rattle.hop_event.specs.declared.event.Event.{Event}
 use Rattle.hop_event.specs.Legal.{restart_due}
 use Rattle.hop_shelf.specs.Sound.{ShelfValue}
 use Rattle.hop_machine.specs.declared.words.Turn.{Turn}
-use Rattle.hop_machine.specs.declared.words.Turn.TheVariants.{Worked, Idle, Stopped}
+use Rattle.hop_machine.specs.declared.words.Turn.TheVariants.{Idle}
 use Rattle.hop_machine.specs.declared.words.Message.{Message}
-use Rattle.hop_machine.specs.step.Steps.{Setup, Value, Deeds, Prog, Then, Steps, Runs, Take, Hold, TryHold, GiveBack, Kept, Risk}
-use Rattle.hop_machine.specs.actors.ReducerTurns.{Reducer, looks, reads, lane_after, gives_back, must_restart, holds, tries, reducer_turn}
+use Rattle.hop_machine.specs.step.Steps.{Setup, Value, Deeds, Prog, Then, Steps, Runs, Take, Hold, TryHold, GiveBack}
+use Rattle.hop_machine.specs.actors.ReducerTurns.{Reducer, looks, reads, lane_after, must_restart, holds, tries, reducer_turn}
 use Rattle.hop_machine.specs.home.Conditions.{Safe, May}
-use Rattle.hop_machine.proofs.step.Programs.{risk_steps}
 use Rattle.hop_machine.proofs.step.Told.{at1-here}
 use Rattle.hop_inner.specs.Setups.{parts}
 use Rattle.hop_inner.specs.Shelved.{value_of}
-use Rattle.hop_drain.specs.Drains.{served, acts}
+use Rattle.hop_drain.specs.Drains.{served}
 use Rattle.hop_drain.specs.Held.{IsHeld}
 use Rattle.hop_drain.proofs.Growing.{IsOfSetup}
 

@@ -1,11 +1,9 @@
 -- What is left of a safe program is safe, and what stays of the value that is held.
-use Rattle.std.proofs.Common.{◌≡◌, ℕ, Bool, true, false, List, refl, sym, ap, ◌∙◌, subst}
-use Rattle.hop_event.specs.declared.event.Event.{Event}
+use Rattle.std.proofs.Common.{◌≡◌, ℕ, Bool, sym, ◌∙◌, subst}
 use Rattle.hop_shelf.specs.Sound.{ShelfValue}
-use Rattle.hop_machine.specs.step.Steps.{Prog, Done, Then, and_then, Deeds, Steps, Runs, Risk, Hold, TryHold, Kept}
+use Rattle.hop_machine.specs.step.Steps.{Prog, Done, Then, and_then, Deeds, Runs, Risk}
 use Rattle.hop_machine.specs.home.Conditions.{Safe}
 use Rattle.hop_machine.proofs.step.Programs.{risk_steps}
-use Rattle.hop_machine.proofs.step.Told.{at1-here}
 use Rattle.hop_drain.specs.Held.{IsHeld}
 
 module _ {A B : Type 0} (parts : ℕ) (e : Bool) where

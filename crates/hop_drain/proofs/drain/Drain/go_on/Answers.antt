@@ -1,4 +1,4 @@
-use Rattle.std.proofs.Common.{◌≡◌, true, false, sym, ap, ◌∙◌, subst}
+use Rattle.std.proofs.Common.{true, false, sym, ap, subst}
 use Rattle.hop_shelf.specs.Journal.{JournalValue}
 use Rattle.hop_machine.specs.step.Steps.{GiveBack}
 use Rattle.hop_machine.specs.actors.ReducerTurns.{Reducer}

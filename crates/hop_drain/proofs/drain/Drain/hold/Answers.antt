@@ -1,4 +1,4 @@
-use Rattle.std.proofs.Common.{◌≡◌, true, ap, sym, ◌∙◌, subst}
+use Rattle.std.proofs.Common.{ap, ◌∙◌, subst}
 use Rattle.hop_machine.specs.step.Steps.{Steps, Hold, Ends, KeepEnd}
 use Rattle.hop_machine.specs.actors.ReducerTurns.{Reducer}
 use Rattle.hop_inner.specs.Shelved.{value_of}

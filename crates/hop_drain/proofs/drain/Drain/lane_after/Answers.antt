@@ -1,4 +1,4 @@
-use Rattle.std.proofs.Common.{◌≡◌, ◌<◌, ◌≤◌, ◌∙◌, ap, subst, arith}
+use Rattle.std.proofs.Common.{◌≤◌, ◌∙◌, ap, subst, arith}
 use Rattle.hop_machine.specs.actors.ReducerTurns.{Reducer}
 use Rattle.hop_drain.proofs.drain.Drain.lane_after.Goals as goal
 

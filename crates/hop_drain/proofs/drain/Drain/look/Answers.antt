@@ -1,4 +1,4 @@
-use Rattle.std.proofs.Common.{◌≡◌, ◌<◌, ◌-◌, Some, None, sym, ap, ◌∙◌, subst}
+use Rattle.std.proofs.Common.{◌≡◌, ◌<◌, ◌-◌, Some, None, sym, ap, subst}
 use Rattle.hop_machine.specs.step.Steps.{Steps, Runs, Take}
 use Rattle.hop_machine.specs.declared.words.Turn.{Turn}
 use Rattle.hop_machine.specs.actors.ReducerTurns.{Reducer, reads, looks, lane_after}

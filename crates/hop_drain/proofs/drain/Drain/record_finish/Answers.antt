@@ -1,8 +1,6 @@
 use Rattle.std.proofs.Common.{◌≡◌, ◌∷◌, sym, ap, ◌∙◌}
 use Rattle.hop_event.specs.declared.event.Event.TheVariants.{Finish}
 use Rattle.hop_shelf.specs.Journal.{JournalValue}
-use Rattle.hop_machine.specs.step.Steps.{Setup}
-use Rattle.hop_machine.specs.home.Said.{history_of}
 use Rattle.hop_drain.proofs.Calling.{one_safe, one_ran, one_not, done_here}
 use Rattle.hop_drain.proofs.drain.Drain.record_finish.Goals as goal
 

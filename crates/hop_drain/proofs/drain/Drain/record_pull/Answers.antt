@@ -1,5 +1,4 @@
-use Rattle.std.proofs.Common.{◌≡◌, ◌∷◌, List, sym, ap, ◌∙◌, subst}
-use Rattle.hop_event.specs.declared.event.Event.{Event}
+use Rattle.std.proofs.Common.{◌≡◌, ◌∷◌, sym, ap, ◌∙◌, subst}
 use Rattle.hop_event.specs.declared.event.Event.TheVariants.{Arrive}
 use Rattle.hop_event.specs.declared.event.Via.TheVariants.{Pull}
 use Rattle.hop_event.specs.Legal.{GoesOn}

@@ -1,14 +1,11 @@
-use Rattle.std.proofs.Common.{◌≡◌, sym, ap, ◌∙◌, subst, refl, rules, true, ◌&&◌, not, is_none}
-use Rattle.hop_shelf.specs.Names.{rules_of, pairs_of}
-use Rattle.hop_event.specs.History.{winner, is_revoked}
-use Rattle.hop_event.specs.declared.event.Event.TheVariants.{Won, Revoked}
-use Rattle.hop_event.specs.Legal.{IsWorker}
-use Rattle.hop_shelf.specs.Journal.{AddsEvent}
-use Rattle.hop_machine.specs.actors.ReducerTurns.{Reducer, range_event, lane_via, notes, notes_new}
+use Rattle.std.proofs.Common.{◌≡◌, subst, refl, rules, true, is_none}
+use Rattle.hop_shelf.specs.Names.{pairs_of}
+use Rattle.hop_event.specs.History.{winner}
+use Rattle.hop_event.specs.declared.event.Event.TheVariants.{Won}
+use Rattle.hop_machine.specs.actors.ReducerTurns.{notes, notes_new}
 use Rattle.hop_machine.specs.home.Conditions.{Safe}
 use Rattle.hop_inner.specs.Setups.{parts, setup_of}
-use Rattle.hop_drain.specs.Answers.{said_answer}
-use Rattle.hop_drain.proofs.Growing.{of_sound, notes_follow, may_grow, range_plain, range_rules, arrived_adds, added_safe, added_ran}
+use Rattle.hop_drain.proofs.Growing.{of_sound, notes_follow, may_grow}
 use Rattle.hop_drain.proofs.drain.Drain.record_won.Goals as goal
 
 pub won-requires-clause-grows : goal.won-requires-clause-grows

@@ -1,4 +1,4 @@
-use Rattle.std.proofs.Common.{◌≡◌, ◌∷◌, map, All, ap, subst}
+use Rattle.std.proofs.Common.{◌≡◌, ◌∷◌, ap, subst}
 use Rattle.std.specs.Prelude.{is_ok}
 use Rattle.hop_machine.specs.step.Steps.{Steps, SendCut}
 use Rattle.hop_machine.specs.actors.ReducerTurns.{Reducer}

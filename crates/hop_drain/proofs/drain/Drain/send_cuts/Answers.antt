@@ -1,8 +1,7 @@
-use Rattle.std.proofs.Common.{◌≡◌, sym, ap, ◌∙◌}
+use Rattle.std.proofs.Common.{◌≡◌, sym, ◌∙◌}
 use Rattle.std.specs.Prelude.{map}
-use Rattle.hop_cut.specs.declared.cut.Cut.{Cut}
 use Rattle.hop_shelf.specs.Names.{pairs_of}
-use Rattle.hop_machine.specs.actors.ReducerTurns.{Reducer, cut_after}
+use Rattle.hop_machine.specs.actors.ReducerTurns.{cut_after}
 use Rattle.hop_inner.specs.Setups.{setup_of}
 use Rattle.hop_inner.specs.Messages.{said_cut}
 use Rattle.hop_drain.proofs.Cutting.{cuts_said, sends_safe, sends_ran}

@@ -1,4 +1,4 @@
-use Rattle.std.proofs.Common.{◌≡◌, sym, subst}
+use Rattle.std.proofs.Common.{subst}
 use Rattle.hop_machine.specs.step.Steps.{Runs}
 use Rattle.hop_machine.specs.actors.ReducerTurns.{send_due}
 use Rattle.hop_drain.proofs.Calling.{due_safe, due_end, due_held, due_ran}
