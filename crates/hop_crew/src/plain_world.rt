@@ -11,6 +11,7 @@ use hop_cut::Cut;
 use hop_inner::{Board, CutLane, Keep, Logged, Message, MessageLane, Reach};
 use hop_lane::PlainLane;
 use hop_machine::Who;
+use hop_shelf::Shelf;
 use std::alloc::Global;
 
 /// All lanes, the board and the locks, on one thread.
@@ -69,14 +70,12 @@ impl<N: RunName, V: Logged> PlainWorld<N, V> {
     }
 }
 
-impl<N: RunName, V: Logged> Reach<N> for PlainWorld<N, V> {
+impl<N: RunName> Reach<N> for PlainWorld<N, Shelf<N>> {
     ghost use Rattle.std.specs.Prelude.{true, Some, refl};
     ghost use Rattle.hop_inner.specs.Setups.{setup_of};
     ghost use Rattle.hop_crew.specs.PlainWorlds.{deeds_of, lane_of, cut_of, keep_of, with_lane, with_cut, with_keep};
 
     type Seat = PlainSeat;
-
-    type Value = V;
 
     type Out = PlainLane<Message<PlainSeat>, MessageLane<N, PlainSeat>>;
 
@@ -88,7 +87,7 @@ impl<N: RunName, V: Logged> Reach<N> for PlainWorld<N, V> {
 
     type Board = PlainBoard<N>;
 
-    type Keep = PlainKeep<V>;
+    type Keep = PlainKeep<Shelf<N>>;
 
     ghost exact = { true };
 
@@ -149,11 +148,11 @@ impl<N: RunName, V: Logged> Reach<N> for PlainWorld<N, V> {
         &mut self.board
     }
 
-    fn keep(&mut self, p: u8) -> &mut PlainKeep<V> {
+    fn keep(&mut self, p: u8) -> &mut PlainKeep<Shelf<N>> {
         &mut self.keeps[p as usize]
     }
 
-    fn hold(&mut self, p: u8) -> V {
+    fn hold(&mut self, p: u8) -> Shelf<N> {
         match self.keeps[p as usize].try_hold() {
             Some(value) => value,
             None => unreachable!(),

@@ -12,13 +12,14 @@ ghost use Rattle.hop_crew.specs.PlainWorlds.{deeds_of};
 use crate::plain_world::PlainWorld;
 use hop_base::RunName;
 use hop_board::PlainSeat;
+use hop_inner::Message;
 use hop_inner::samples::small_turn;
-use hop_inner::{Logged, Message};
+use hop_shelf::Shelf;
 
 /// What is held goes out, and a split is asked for: the same program as over any ends, and each answer is
 /// the one of one thread.
-pub fn plain_turn<N: RunName, V: Logged>(
-    world: &mut PlainWorld<N, V>,
+pub fn plain_turn<N: RunName>(
+    world: &mut PlainWorld<N, Shelf<N>>,
     w: u8,
     p: u8,
     held: &mut Option<Message<PlainSeat>>,

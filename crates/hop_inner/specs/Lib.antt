@@ -4,3 +4,4 @@ pub mod Messages
 pub mod Boards
 pub mod Locks
 pub mod Samples
+pub mod Shelved

@@ -8,6 +8,7 @@ pub mod lane;
 pub mod message;
 pub mod reach;
 pub mod samples;
+pub mod shelved;
 pub mod steps;
 
 pub use board::{Board, Knowing};

@@ -11,22 +11,22 @@ ghost use Rattle.hop_inner.specs.Messages.{said, said_cut};
 ghost use Rattle.hop_inner.specs.Lines.{Sends, Takes, option_said};
 ghost use Rattle.hop_inner.specs.Boards.{IsEndOf, boards_step};
 ghost use Rattle.hop_inner.specs.Locks.{with_kept};
+ghost use Rattle.hop_inner.specs.Shelved.{value_of};
 ghost use Rattle.hop_inner.specs.declared.message.Message.{Message as Msg};
 
 use crate::board::{Board, Knowing};
-use crate::keep::{Keep, Logged};
+use crate::keep::Keep;
 use crate::lane::{Receiver, Sender};
 use crate::message::{CutLane, Message, MessageLane};
 use hop_base::RunName;
 use hop_cut::Cut;
 use hop_machine::Who;
+use hop_shelf::Shelf;
 
 /// Ends of the lanes, the board and the locks of a run, which it lends one at a time. Each step of an
 /// end that is lent is that step of the whole, and nothing else.
 pub trait Reach<N: RunName> {
     type Seat: Knowing;
-
-    type Value: Logged;
 
     type Out: Sender<Message<Self::Seat>, MessageLane<N, Self::Seat>>;
 
@@ -38,7 +38,7 @@ pub trait Reach<N: RunName> {
 
     type Board: Board<Self::Seat>;
 
-    type Keep: Keep<Self::Value>;
+    type Keep: Keep<Shelf<N>>;
 
     /// Whether each answer is the one of the state, as on one thread.
     ghost exact: { Bool };
@@ -120,11 +120,11 @@ pub trait Reach<N: RunName> {
         ensures shows { (Self.Keep.lock result.now).kept ≡ (deeds self.old).did.keeps p };
 
     /// The value of reducer `p`'s lock, held through its recorder's end. It may wait for it.
-    fn hold(&mut self, p: u8) -> Self::Value
+    fn hold(&mut self, p: u8) -> Shelf<N>
         requires end { (deeds self.old).ends.has (KeepEnd p) ≡ true }
         requires free { ((deeds self.old).did.keeps p).held ≡ false }
-        ensures step { Steps exact (Hold p) (Self.Value.value result) (deeds self.old) (deeds self.new) }
-        ensures number { Self.Value.number result ≡ p };
+        ensures step { Steps exact (Hold p) (value_of result) (deeds self.old) (deeds self.new) }
+        ensures number { result.p ≡ p };
 
     /// Each end of the lane is told of the other's whole list.
     fn meet(&mut self, w: u8, p: u8)

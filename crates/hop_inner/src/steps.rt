@@ -11,15 +11,17 @@ ghost use Rattle.hop_inner.specs.Messages.{said, said_cut, FitsAt, CutFitsAt};
 ghost use Rattle.hop_inner.specs.Lines.{option_said};
 ghost use Rattle.hop_inner.specs.Boards.{KnowsVerdict};
 ghost use Rattle.hop_inner.specs.Locks.{AddsOne, RecordsOne};
+ghost use Rattle.hop_inner.specs.Shelved.{value_of};
 
 use crate::board::{Board, Knowing};
-use crate::keep::{Keep, Logged};
+use crate::keep::Keep;
 use crate::lane::{Full, Receiver, Sender};
 use crate::message::Message;
 use crate::reach::Reach;
 use hop_base::RunName;
 use hop_cut::Cut;
 use hop_machine::{Verdict, Who};
+use hop_shelf::Shelf;
 
 /// Sends a message to reducer `p`.
 pub fn send_on<N: RunName, E: Reach<N>>(
@@ -144,32 +146,32 @@ pub fn join_on<N: RunName, E: Reach<N>>(
 }
 
 /// The value of reducer `p`'s lock, unless somebody else has it.
-pub fn try_hold_on<N: RunName, E: Reach<N>>(reach: &mut E, p: u8) -> Option<E::Value>
+pub fn try_hold_on<N: RunName, E: Reach<N>>(reach: &mut E, p: u8) -> Option<Shelf<N>>
     requires may { May parts (TryHold p) (E.deeds reach.old) }
     requires free { ((E.deeds reach.old).did.keeps p).held ≡ false }
-    ensures step { Steps E.exact (TryHold p) (option_map E.Value.value result) (E.deeds reach.old) (E.deeds reach.new) }
-    ensures number { IfSome result (λ x. E.Value.number x ≡ p) }
+    ensures step { Steps E.exact (TryHold p) (option_map value_of result) (E.deeds reach.old) (E.deeds reach.new) }
+    ensures number { IfSome result (λ x. x.p ≡ p) }
 {
     reach.keep(p).try_hold()
 }
 
 /// The value is given back with no event more.
-pub fn give_back_on<N: RunName, E: Reach<N>>(reach: &mut E, p: u8, value: E::Value)
-    requires may { May parts (GiveBack p (E.Value.value value).due) (E.deeds reach.old) }
+pub fn give_back_on<N: RunName, E: Reach<N>>(reach: &mut E, p: u8, value: Shelf<N>)
+    requires may { May parts (GiveBack p (value_of value).due) (E.deeds reach.old) }
     requires held { ((E.deeds reach.old).did.keeps p).held ≡ true }
-    requires number { E.Value.number value ≡ p }
-    requires same { (E.Value.value value).events ≡ ((E.deeds reach.old).did.keeps p).events }
-    ensures { Steps E.exact (GiveBack p (E.Value.value value).due) tt (E.deeds reach.old) (E.deeds reach.new) }
+    requires number { value.p ≡ p }
+    requires same { (value_of value).events ≡ ((E.deeds reach.old).did.keeps p).events }
+    ensures { Steps E.exact (GiveBack p (value_of value).due) tt (E.deeds reach.old) (E.deeds reach.new) }
 {
     reach.keep(p).give_back(value);
 }
 
 /// The value is given back with one event more, which is recorded as it is given back.
-pub fn record_on<N: RunName, E: Reach<N>>(reach: &mut E, p: u8, value: E::Value)
-    requires adds { AddsOne p (E.Value.value value) (E.deeds reach.old) }
+pub fn record_on<N: RunName, E: Reach<N>>(reach: &mut E, p: u8, value: Shelf<N>)
+    requires adds { AddsOne p (value_of value) (E.deeds reach.old) }
     requires held { ((E.deeds reach.old).did.keeps p).held ≡ true }
-    requires number { E.Value.number value ≡ p }
-    ensures { (e : Event) → (E.Value.value value).events ≡ e ∷ ((E.deeds reach.old).did.keeps p).events → RecordsOne E.exact p e (E.Value.value value).due (E.deeds reach.old) (E.deeds reach.new) }
+    requires number { value.p ≡ p }
+    ensures { (e : Event) → (value_of value).events ≡ e ∷ ((E.deeds reach.old).did.keeps p).events → RecordsOne E.exact p e (value_of value).due (E.deeds reach.old) (E.deeds reach.new) }
 {
     reach.keep(p).give_back(value);
 }
