@@ -2,7 +2,7 @@
 use Rattle.std.proofs.Common.{◌≡◌, ℕ, zero, suc, ◌+◌, ◌<◌, eqb, cond, Bool, true, false, List, [], ◌∷◌, ◌++◌, length, take, drop, map, get_or, refl, sym, ap, ◌∙◌, subst, arith, append-nil, append_assoc}
 use Rattle.std.specs.Prelude.{slice_set}
 use Rattle.std.proofs.lemmas.Bool.{eqb-true, eq-eqb, true≢false}
-use Rattle.std.proofs.lemmas.List.{get_or-set_same, get_or-set_other, take-set, drop-set-lt, take_more_set, drop_more, map-append, length-set, take_all, take-append-drop}
+use Rattle.std.proofs.lemmas.List.{get_or-set_same, get_or-set_other, take-set, drop-set-lt, take_more_set, drop_more, map-append, length-set, take_all, drop_all, take-append-drop}
 use Rattle.hop_machine.specs.declared.words.Message.{Message as Said}
 use Rattle.hop_machine.specs.step.Steps.{Deeds, Prog, Done, Then, and_then, Runs}
 use Rattle.hop_machine.specs.actors.MapperTurns.{Lane, Lanes, each_lane}
@@ -17,7 +17,7 @@ safe_first parts e (Then s k) f a h = (h.0, λ o b st. safe_first parts e (k o) 
 
 module _ (parts : ℕ) (e : Bool) (f : ℕ → List Said → Prog Lane) (p : ℕ) (h : List Said) (hs : List (List Said)) (a b : Deeds) (held : List Said) where
   -- what the program goes on with after a lane
-  rest : Lane → Prog Lanes
+  abbrev pub rest : Lane → Prog Lanes
   rest x = cond x.went (and_then (each_lane f (p + 1) hs) (λ (xs : Lanes). Done (record { went = xs.went; held = x.held ∷ xs.held }))) (Done (record { went = false; held = x.held ∷ hs }))
 
   next_safe : Safe parts e (each_lane f p (h ∷ hs)) a → Runs e (f p h) a (record { went = true; held = held }) b → Safe parts e (each_lane f (p + 1) hs) b

@@ -1,4 +1,6 @@
 pub mod AllLanes
 pub mod ChainLaws
+pub mod FetchedLaws
+pub mod LaneLaws
 pub mod LanePrograms
 pub mod VaultLaws
