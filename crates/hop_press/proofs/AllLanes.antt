@@ -40,6 +40,11 @@ module _ {K : Type 0} where
       step true s = subst (λ k. P k (lane_at new k)) (sym (eqb-true q p s)) here
       step false s = subst (λ (x : LaneValue K). P q x) (sym (ap (λ (ls : List (LaneValue K)). lane_at ls q) only ∙ get_or-set_other old p q (lane_at new p) no_lane (λ (k : q ≡ p). true≢false (sym (eq-eqb q p k) ∙ s)))) (h q)
 
+  pub set_each : (P : ℕ → LaneValue K → Type 0) (ls : List (LaneValue K)) (p : ℕ) (x : LaneValue K) → p < length ls → ((q : ℕ) → P q (lane_at ls q)) → P p x → (q : ℕ) → P q (lane_at (slice_set ls p x) q)
+  set_each P ls p x lt h here q =
+      let same : lane_at (slice_set ls p x) p ≡ x = get_or-set_same ls p x no_lane lt in
+      each_set P ls (slice_set ls p x) p lt (ap (λ (y : LaneValue K). slice_set ls p y) (sym same)) h (subst (λ (y : LaneValue K). P p y) (sym same) here) q
+
   pub set_len : (old new : List (LaneValue K)) (p : ℕ) → OnlyAt p old new → length new ≡ length old
   set_len old new p only = ap (λ (ls : List (LaneValue K)). length ls) only ∙ length-set old p (lane_at new p)
 
