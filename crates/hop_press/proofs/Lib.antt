@@ -3,4 +3,5 @@ pub mod ChainLaws
 pub mod FetchedLaws
 pub mod LaneLaws
 pub mod LanePrograms
+pub mod PressLaws
 pub mod VaultLaws
