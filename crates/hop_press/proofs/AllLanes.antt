@@ -31,6 +31,12 @@ module _ (parts : ℕ) (e : Bool) (f : ℕ → List Said → Prog Lane) (p : ℕ
   stopped_runs : Runs e (f p h) a (record { went = false; held = held }) b → Runs e (each_lane f p (h ∷ hs)) a (record { went = false; held = held ∷ hs }) b
   stopped_runs r = Runs-and_then e (f p h) rest a b b (record { went = false; held = held }) (record { went = false; held = held ∷ hs }) r (refl, refl)
 
+-- an element that is there is the same by any default
+pub any_default : {X : Type 0} (xs : List X) (p : ℕ) (x y : X) → p < length xs → get_or xs p x ≡ get_or xs p y
+any_default [] p x y lt = absurd (omega arith)
+any_default (l ∷ xs) zero x y lt = refl
+any_default (l ∷ xs) (suc p) x y lt = any_default xs p x y (omega arith)
+
 module _ {K : Type 0} where
   -- what each lane meets, they meet where one of them is set
   pub each_set : (P : ℕ → LaneValue K → Type 0) (old new : List (LaneValue K)) (p : ℕ) → p < length old → OnlyAt p old new → ((q : ℕ) → P q (lane_at old q)) → P p (lane_at new p) → (q : ℕ) → P q (lane_at new q)
@@ -48,14 +54,8 @@ module _ {K : Type 0} where
   pub set_len : (old new : List (LaneValue K)) (p : ℕ) → OnlyAt p old new → length new ≡ length old
   set_len old new p only = ap (λ (ls : List (LaneValue K)). length ls) only ∙ length-set old p (lane_at new p)
 
-  -- an element that is there is the same by any default
   pub there : (ls : List (LaneValue K)) (p : ℕ) (x : LaneValue K) → p < length ls → x ≡ get_or ls p x → x ≡ lane_at ls p
-  there ls p x lt h = h ∙ same ls p x no_lane lt
-    where
-      same : (ls : List (LaneValue K)) (p : ℕ) (x y : LaneValue K) → p < length ls → get_or ls p x ≡ get_or ls p y
-      same [] p x y lt = absurd (omega arith)
-      same (l ∷ ls) zero x y lt = refl
-      same (l ∷ ls) (suc p) x y lt = same ls p x y (omega arith)
+  there ls p x lt h = h ∙ any_default ls p x no_lane lt
 
   pub is_only : (ls : List (LaneValue K)) (p : ℕ) (x : LaneValue K) → p < length ls → OnlyAt p ls (slice_set ls p x)
   is_only ls p x lt = ap (λ (y : LaneValue K). slice_set ls p y) (sym (get_or-set_same ls p x no_lane lt))

@@ -16,6 +16,7 @@ use Rattle.hop_base.specs.declared.part.Part.{Part}
 use Rattle.hop_base.specs.declared.value.Pair.{Pair}
 use Rattle.hop_base.specs.declared.value.Val.{Val}
 use Rattle.hop_run.specs.Runs.{RunValue, RunStands}
+use Rattle.hop_shelf.specs.Sound.{IsParcel}
 use Rattle.hop_shelf.specs.Parts.{IsChain as AreConsecutive}
 use Rattle.hop_inner.specs.Messages.{FitsParcel}
 use Rattle.hop_laws.specs.Stands.{StandsFor}
@@ -141,3 +142,7 @@ one_part reduced pairs part sheet run is h =
 -- pairs in order are valid only where all pairs are
 pub ordered_valid : (pairs sheet : List Pair) → sheet ≡ ord pair_cmp pairs → All IsValidPair sheet → All IsValidPair pairs
 ordered_valid pairs sheet is h = All-permutation IsValidPair (ord pair_cmp pairs) pairs (IsPermutation-sym pairs (ord pair_cmp pairs) (ord_permutes pairs)) (subst (λ (ps : List Pair). All IsValidPair ps) is h)
+
+-- a run that is the part's, and stands where the folder tells, fits
+pub fits_offered : (tells : Bool) (reduced : List ℕ → List Val → List ℕ) (pairs : Part → List Pair) (part : Part) (run : RunValue) → IsParcel part run → (IsTrue tells → RunStands reduced pairs run) → All IsValidPair run.sheet → FitsParcel tells reduced pairs (record { part = part; run = run })
+fits_offered tells reduced pairs part run own stands valid = record { parts = own; stands = λ told. record { valid = valid; stands = stands told } }
