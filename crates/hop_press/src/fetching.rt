@@ -67,12 +67,7 @@ fn fault_of(fault: FetchFault) -> FlushFault
 }
 
 // The sheets merged and combined, as a run of the part. It stands for what the sheets together stand for.
-fn joined<J: Job>(
-    alloc: Global,
-    job: &J,
-    part: Part,
-    sheets: FlatSheets,
-) -> Result<Run, NoMemory>
+fn joined<J: Job>(alloc: Global, job: &J, part: Part, sheets: FlatSheets) -> Result<Run, NoMemory>
     ensures parts { IfOk result (λ run. run.parts ≡ part ∷ []) }
     ensures valid { IfOk result (λ run. All IsValidPair run.sheet) }
     ensures stands { (pairs_of : Part → List Pair)

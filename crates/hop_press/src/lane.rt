@@ -259,10 +259,7 @@ fn continued(before: &Part, after: &Part) -> Option<Part>
     ensures joined { joined (machine.Range before.now) (machine.Range after.now) ≡ option_map machine.Range result }
     ensures whole { (table : Table) → AreChained table → IsWhole table before.now → IsWhole table after.now → IfSome result (IsWhole table) }
 {
-    if after.split == before.split
-        && after.attempt == before.attempt
-        && after.from == before.to
-    {
+    if after.split == before.split && after.attempt == before.attempt && after.from == before.to {
         Some(Part {
             to: after.to,
             ..*before
