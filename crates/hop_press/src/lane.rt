@@ -1,9 +1,9 @@
 //! What is held for one lane.
-ghost use Rattle.std.specs.Prelude.{◌≡◌, ℕ, ◌≢◌, ◌+◌, ◌<◌, ◌≤◌, [], ◌↔◌, ◌++◌, List, map, IsTrue, IsSome, IfSome, IfOk, IfErr, OnOk, OnErr, None, All};
+ghost use Rattle.std.specs.Prelude.{◌≡◌, ℕ, ◌≢◌, ◌+◌, ◌<◌, ◌≤◌, [], ◌↔◌, ◌++◌, List, map, IsTrue, IsSome, IfSome, IfErr, OnOk, OnErr, None, All};
 ghost use Rattle.std.specs.Option.{option_map};
 ghost use Rattle.std.specs.VecDeque.{deque_len, deque_capacity};
 ghost use Rattle.hop_ports.specs.Causes.{OnlyRead};
-ghost use Rattle.hop_shelf.specs.Names.{pairs_of, IsRun};
+ghost use Rattle.hop_shelf.specs.Names.{IsRun};
 ghost use Rattle.hop_machine.specs.declared.words.Message.TheVariants as machine;
 ghost use Rattle.hop_machine.specs.step.Steps.{Runs};
 ghost use Rattle.hop_machine.specs.actors.MapperTurns.{flush, offer, with_row, joined, last_row};
