@@ -1,2 +1,3 @@
 pub mod TwoSplits
 pub mod Seats
+pub mod Worlds

@@ -5,3 +5,5 @@
 mod boards;
 #[cfg(test)]
 mod lanes;
+#[cfg(test)]
+mod worlds;
