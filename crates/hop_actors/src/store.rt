@@ -1,5 +1,5 @@
 //! What a coordinator asks of a mapper.
-ghost use Rattle.std.specs.Prelude.{◌≡◌, false, ℕ, ◌<◌, IsTrue, IfOk, IfErr, OnOk, Option, slice_index_or, None};
+ghost use Rattle.std.specs.Prelude.{◌≡◌, false, ℕ, List, ◌<◌, IsTrue, IfOk, IfErr, OnOk, Option, slice_index_or, None};
 ghost use Rattle.hop_base.specs.Files.{Files};
 ghost use Rattle.hop_shelf.specs.Names.{pairs_of};
 ghost use Rattle.hop_machine.specs.actors.MapperTurns.{Mapper};
@@ -35,6 +35,7 @@ pub trait Store<N: RunName, E: Reach<N>>: Actor<N, E> {
         ensures mapper { mapper self.new ≡ mapper self.old }
         ensures failed { Self.failed self.new ≡ Self.failed self.old }
         ensures held { held self.new ≡ held self.old }
+        ensures fits { (board : List ℕ) → Self.fits self.old board → Self.fits self.new board }
         ensures stands { IfOk result (λ sheets. IsTrue N.tells → TogetherStand N.job.reduced sheets (pairs_of N.job N.records N.settings p part)) }
         ensures answered { OnOk result (Self.counts self.new ≡ Self.counts self.old) }
         ensures cause { IfErr result (StoreCause (mapper self.old).number (Self.counts self.old) (Self.counts self.new)) };
