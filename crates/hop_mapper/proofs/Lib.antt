@@ -1,0 +1,4 @@
+pub mod Sizes
+pub mod Made
+pub mod Splits
+pub mod Keeping

@@ -1,0 +1,4 @@
+pub mod Mappers
+pub mod Sound
+pub mod Programs
+pub mod Next

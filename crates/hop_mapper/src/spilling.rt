@@ -1,0 +1,37 @@
+//! The spill of some runs.
+ghost use Rattle.std.specs.Prelude.{◌≡◌, IfOk, All, map};
+ghost use Rattle.hop_base.specs.Order.{IsSheet};
+ghost use Rattle.hop_run.specs.Runs.{RunValue};
+ghost use Rattle.hop_spill.specs.Spelling.{spill_in};
+
+use hop_base::{FlatSheets, Listed, NoMemory, Part};
+use hop_run::Runs;
+use hop_spill::FlatSpill;
+use std::alloc::Global;
+
+// The sheets of the runs, which share their bytes.
+fn sheets_of(alloc: Global, runs: &Runs) -> Result<FlatSheets, NoMemory>
+    ensures value { IfOk result (λ sheets. sheets ≡ map (λ (run : RunValue). run.sheet) runs.now) }
+    ensures each { IfOk result (λ sheets. All IsSheet sheets) }
+{
+    let mut sheets = Listed::new(alloc);
+    for run in runs.as_slice() {
+        sheets.push(run.flat().copy()?)?;
+    }
+    Ok(sheets)
+}
+
+// The spill of a range whose runs these are, one for each partition. No pair of it is copied.
+pub(crate) fn spill_of(alloc: Global, part: Part, runs: &Runs) -> Result<FlatSpill, NoMemory>
+    ensures value { IfOk result (λ spill. spill_in spill ≡ record { split = part.split; attempt = part.attempt; from = part.from; to = part.to; sheets = map (λ (run : RunValue). run.sheet) runs.now }) }
+    ensures each { IfOk result (λ spill. All IsSheet spill.sheets) }
+{
+    let sheets = sheets_of(alloc, runs)?;
+    Ok(FlatSpill {
+        split: part.split,
+        attempt: part.attempt,
+        from: part.from,
+        to: part.to,
+        sheets,
+    })
+}
