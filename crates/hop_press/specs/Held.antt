@@ -1,5 +1,5 @@
 -- What a press holds for each lane, and the machine's messages that it stands for.
-use Rattle.std.specs.Prelude.{◌≡◌, ◌≢◌, ℕ, List, [], ◌∷◌, map, length, is_ok, slice_index_or, Option, None, Some, Result}
+use Rattle.std.specs.Prelude.{◌≡◌, ℕ, List, [], ◌∷◌, map, is_ok, slice_index_or, slice_set, Option, None, Some, Result}
 use Rattle.hop_machine.specs.declared.words.Message.{Message as Said}
 use Rattle.hop_machine.specs.declared.words.Message.TheVariants as machine
 use Rattle.hop_machine.specs.actors.MapperTurns.{Lane, Lanes}
@@ -57,6 +57,5 @@ abbrev pub lanes_left : {A E : Type 0} → Result A E → List (List Said) → L
 lanes_left result held = record { went = is_ok result; held = held }
 
 -- lane p may have changed, and no other one
-pub record OnlyAt {K : Type 0} (p : ℕ) (old new : List (LaneValue K)) : Type 0 where
-  pub len : length new ≡ length old
-  pub others : (q : ℕ) → q ≢ p → lane_at new q ≡ lane_at old q
+abbrev pub OnlyAt : {K : Type 0} → ℕ → List (LaneValue K) → List (LaneValue K) → Type 0
+OnlyAt p old new = new ≡ slice_set old p (lane_at new p)

@@ -1,0 +1,4 @@
+pub mod AllLanes
+pub mod ChainLaws
+pub mod LanePrograms
+pub mod VaultLaws
