@@ -12,6 +12,7 @@ use Rattle.std.proofs.lemmas.Map.Lookups.{exact_bytes}
 use Rattle.std.proofs.lemmas.Bool.{eqb-true}
 use Rattle.std.proofs.lemmas.List.FromFn.{length-map-range_with_len}
 use Rattle.std.proofs.lemmas.List.Elements.{All-nil, All-cons, All-head, All-tail, All-append}
+use Rattle.sha2.specs.Sha256.{sha256}
 use Rattle.hop_base.specs.Files.{Files}
 use Rattle.hop_base.specs.declared.part.Part.{Part}
 use Rattle.hop_base.specs.Meaning.{Meaning}
@@ -28,7 +29,7 @@ use Rattle.hop_vault.specs.Vaults.{IsSound, IsKept, IsKeptIn, KeepCause}
 use Rattle.hop_vault.proofs.NameLaws.{name_tells}
 use Rattle.hop_vault.proofs.SoundLaws.{chain_up, sound_kept}
 use Rattle.hop_press.specs.Fits.{IsMade, KeepsMade, made_at}
-use Rattle.hop_mapper.specs.Next.{IsNext}
+use Rattle.hop_mapper.specs.Next.{IsNext, split_len}
 
 not_tied : (name other : List ℕ) → name ≢ other → (o : Ordering) → slice_cmp nat_cmp name other ≡ o → is_eq o ≡ false
 not_tied name other differ Less e = refl
@@ -79,6 +80,7 @@ module _ (job : Meaning) (records : List (List ℕ)) (settings : RunSettings) wh
       to_is = h.to_is;
       sheets_are = h.sheets_are;
       is_spill = h.is_spill;
+      digest_is = h.digest_is;
       text_is = get_other files (name_of i a kept.from) (name_at part) (text_of part) (differs (Some files) i a kept h below) ∙ h.text_is;
     }
 
@@ -102,14 +104,15 @@ module _ (job : Meaning) (records : List (List ℕ)) (settings : RunSettings) wh
       made = λ i a. subst (λ (row : List Kept). All (Made now i a) row) (sym (same i a)) (subst (λ (x : Option Files). All (Made x i a) (row_of before i a)) (sym e) (rows_others held before next h i a));
     }
 
-    made_now : (held : Option Files) (kept : Kept) → IsKept (spill_made job records settings.split settings.reducers part) kept → part.to ≡ min (part.from + settings.spill) (slice_index (Rattle.hop_records.specs.Records.lens_of (Rattle.hop_shelf.specs.Names.book_of records settings)) part.split)
+    made_now : (held : Option Files) (kept : Kept) → IsKept (spill_made job records settings.split settings.reducers part) kept → part.to ≡ min (part.from + settings.spill) (split_len records settings part.split)
         → Made (with_file held (name_at part) (text_of part)) part.split part.attempt kept
     made_now held kept k to =
         let range : range_of part.split part.attempt kept ≡ part = λ i. record { split = part.split; attempt = part.attempt; from = k.from_is i; to = k.to_is i } in
         record {
-          to_is = k.to_is ∙ to ∙ ap (λ n. min (n + settings.spill) (slice_index (Rattle.hop_records.specs.Records.lens_of (Rattle.hop_shelf.specs.Names.book_of records settings)) part.split)) (sym k.from_is);
+          to_is = k.to_is ∙ to ∙ ap (λ n. min (n + settings.spill) (split_len records settings part.split)) (sym k.from_is);
           sheets_are = k.sheets_are ∙ length-map-range_with_len (sheet_made job records settings.split settings.reducers part) 0 settings.reducers;
           is_spill = subst (λ (q : Part). IsSpill (spill_made job records settings.split settings.reducers q)) (sym range) is;
+          digest_is = k.digest_is ∙ ap (λ (q : Part). sha256 (text_of q)) (sym range);
           text_is = subst (λ (q : Part). IfSome (with_file held (name_at part) (text_of part)) (λ files. map.get files (name_at q) ≡ Some (text_of q))) (sym range) (told held);
         }
       where

@@ -2,3 +2,9 @@ pub mod Sizes
 pub mod Made
 pub mod Splits
 pub mod Keeping
+pub mod Begun
+pub mod TurnLaws
+pub mod PartsOfTurns
+pub mod Fitting
+pub mod Offering
+pub mod SpilledLaws

@@ -35,7 +35,7 @@ one_value true p xs = omega arith
 one_value false p xs = omega arith
 
 total_more : (ks : List (List ℕ)) (p : Pair) (ps : List Pair) → total ks (p ∷ ps) ≡ hits p.key ks + total ks ps
-unfolding total, hits
+unfolding total hits
 total_more [] p ps = refl
 total_more (k ∷ ks) p ps = omega (arith, one_value (bytes_eq k p.key) p (filter (λ q. bytes_eq k q.key) ps), total_more ks p ps)
 
@@ -85,8 +85,8 @@ groups_few : (f : List ℕ → List Val) (ps : List Pair) (ks : List (List ℕ))
 unfolding total
 groups_few f ps [] h = omega arith
 groups_few f ps (k ∷ ks) h =
-    let a = length-append (pairs_at k (f k)) (flat_map (λ k. pairs_at k (f k)) ks) in
-    let m = length-map (f k) (λ (v : Val). record { key = k; val = v }) in
+    let a : length (flat_map (λ k. pairs_at k (f k)) (k ∷ ks)) ≡ length (pairs_at k (f k)) + length (flat_map (λ k. pairs_at k (f k)) ks) = length-append (pairs_at k (f k)) (flat_map (λ k. pairs_at k (f k)) ks) in
+    let m : length (pairs_at k (f k)) ≡ length (f k) = length-map (f k) (λ (v : Val). record { key = k; val = v }) in
     let here = h k (ap (λ b. b || list_any (bytes_eq k) ks) (itself k)) in
     let r = groups_few f ps ks (λ l e. h l (ap (λ b. bytes_eq l k || b) e ∙ or_true (bytes_eq l k))) in omega arith
 
@@ -149,7 +149,7 @@ of_partition_few p r (q ∷ ps) = of_partition_few_at (partition_of q.key r == p
 emits_few : (meaning : Meaning) → IsLawful meaning → (rs : List (List ℕ)) → All (λ line. length line ≤ 131050) rs → length (flat_map meaning.emits rs) ≤ 65536 * length rs
 emits_few meaning laws [] h = omega arith
 emits_few meaning laws (line ∷ rs) h =
-    let a = length-append (meaning.emits line) (flat_map meaning.emits rs) in
+    let a : length (flat_map meaning.emits (line ∷ rs)) ≡ length (meaning.emits line) + length (flat_map meaning.emits rs) = length-append (meaning.emits line) (flat_map meaning.emits rs) in
     let e = (laws.emits_well line (All-head (λ line. length line ≤ 131050) line rs h)).few in
     let r = emits_few meaning laws rs (All-tail (λ line. length line ≤ 131050) line rs h) in omega arith
 

@@ -1,15 +1,17 @@
 -- What is true of every mapper.
-use Rattle.std.specs.Prelude.{◌≡◌, ℕ, Bool, false, List, length, IsTrue, IsSome}
+use Rattle.std.specs.Prelude.{◌≡◌, ℕ, Bool, false, List, length, Option, None, slice_index_or, IsTrue, IsSome}
+use Rattle.hop_base.specs.Files.{Files}
 use Rattle.hop_base.specs.declared.settings.Settings.{Settings}
 use Rattle.hop_base.specs.Meaning.{Meaning}
 use Rattle.hop_base.specs.Run.{ScriptLines, RunSettings}
 use Rattle.hop_ports.specs.Views.{FolderView}
 use Rattle.hop_records.specs.Records.{BookValue, lens_of}
 use Rattle.hop_shelf.specs.Names.{book_of, IsRun}
-use Rattle.hop_vault.specs.Rows.{Table}
+use Rattle.hop_vault.specs.Rows.{Table, kept_end}
 use Rattle.hop_press.specs.Fits.{KeepsMade}
 use Rattle.hop_press.specs.Held.{LaneValue, AreReady}
-use Rattle.hop_mapper.specs.Mappers.{settings_of}
+use Rattle.hop_actors.specs.Spilled.{IsSpilled}
+use Rattle.hop_mapper.specs.Mappers.{MapperValue, settings_of}
 
 -- what a mapper borrows is of the run
 pub record IsOfRun (job : Meaning) (records : List (List ℕ)) (script : ScriptLines) (settings : RunSettings) (own_job : Meaning) (book : BookValue) (own_script : ScriptLines) (own : Settings) : Type 0 where
@@ -29,3 +31,8 @@ pub record IsSound (job : Meaning) (records : List (List ℕ)) (script : ScriptL
   pub lanes : length held ≡ settings.reducers
   pub counts : length begun ≡ length (lens_of (book_of records settings))
   pub ready : failed ≡ false → AreReady held
+
+-- Unless a turn failed, its folder holds what it held at the start and the files of just the spills that were kept, where it tells.
+abbrev pub HoldsSpills : Meaning → List (List ℕ) → RunSettings → List (Option Files) → {V K : Type 0} → (V → FolderView) → MapperValue V K → Type 0
+HoldsSpills job records settings spills seen m =
+    m.failed ≡ false → IsSpilled job records settings.split settings.reducers settings.spill (lens_of (book_of records settings)) (λ i a. kept_end m.vault.rows i a) (slice_index_or spills m.vault.worker None) (seen m.vault.folder).held

@@ -4,9 +4,12 @@
 //! job ends).
 #![tactic(auto)]
 
-pub mod state;
+mod faults;
+pub mod mapper;
 mod scripted;
+mod spilling;
+mod state;
 pub mod work;
 
-
-pub use work::Work;
+pub use mapper::Mapper;
+pub use work::{Running, Work};

@@ -1,25 +1,31 @@
 //! What a map worker has, and the parts of its turn.
-ghost use Rattle.std.specs.Prelude.{◌≡◌, ℕ, ◌-◌, ◌<◌, ◌≤◌, length};
+ghost use Rattle.std.specs.Prelude.{◌≡◌, ℕ, ◌+◌, ◌-◌, ◌<◌, ◌≤◌, false, length, slice_index, slice_set, IfOk, IfErr, OnOk, map, slice_index_or, replicate};
+ghost use Rattle.hop_machine.specs.declared.words.Who.TheVariants as actor;
 ghost use Rattle.hop_machine.specs.step.Steps.{Runs};
 ghost use Rattle.hop_machine.specs.home.Conditions.{Safe};
 ghost use Rattle.hop_inner.specs.Setups.{parts};
 ghost use Rattle.hop_inner.specs.Boards.{KnowsVerdict};
-ghost use Rattle.hop_machine.specs.declared.words.Who.TheVariants as actor;
+ghost use Rattle.hop_mapper.specs.Mappers.{running_of};
 ghost use Rattle.hop_mapper.specs.Programs.{settles};
 
+use crate::faults::flush_fault;
 use crate::scripted::{fails_by, is_full};
-use crate::work::Work;
+use crate::spilling::spill_of;
+use crate::work::{Running, Work};
 use hop_actors::{Fault, Turn};
-use hop_base::{RunName, Settings};
+use hop_base::{NoMemory, Part, RunName, Settings};
 use hop_inner::steps::{commit_on, draw_on, next_split_on, revoke_on, winner_on};
 use hop_inner::{Knowing, Reach};
 use hop_laws::Job;
+use hop_machine::mapper_laws::{mapper_is_safe, mapper_says};
 use hop_machine::{Verdict, Who};
-use hop_ports::{Folder, Gate};
+use hop_ports::{Folder, Gate, Point};
 use hop_press::Press;
 use hop_records::Book;
+use hop_run::{Run, Runs};
 use hop_script::Script;
-use hop_vault::Vault;
+use hop_spill::FlatSpill;
+use hop_vault::{KeepFault, Vault};
 use std::alloc::Global;
 use std::marker::{Model, PhantomData};
 
@@ -59,28 +65,87 @@ impl<'a, N: RunName, V: Folder, J: Job, G: Gate, K: Knowing> Model for State<'a,
 
 impl<'a, N: RunName, V: Folder, J: Job, G: Gate, K: Knowing> State<'a, N, V, J, G, K> {
     ghost use Rattle.std.specs.Prelude.{List, Option};
-    ghost use Rattle.hop_actors.specs.Acting.{said_turn};
-    ghost use Rattle.hop_machine.specs.actors.MapperTurns.{begins, retries, backs_up, when_dry, given, nothing_left, acts, spill_end, must_fail, unless_spent};
+    ghost use Rattle.std.specs.List.{range_with_len};
+    ghost use Rattle.hop_base.specs.Run.{fails_at};
     ghost use Rattle.hop_records.specs.Records.{lens_of};
-    ghost use Rattle.hop_shelf.specs.Names.{book_of, rules_of};
+    ghost use Rattle.hop_run.specs.Runs.{RunStands, combined_run, empty_run};
+    ghost use Rattle.hop_shelf.specs.Names.{book_of, rules_of, pairs_of};
+    ghost use Rattle.hop_spill.specs.Spelling.{IsSpill, spill_in};
+    ghost use Rattle.hop_spill.specs.SpillFiles.{spill_made};
+    ghost use Rattle.hop_vault.specs.Rows.{SameRows};
+    ghost use Rattle.hop_vault.specs.Vaults.{IsKeptIn};
+    ghost use Rattle.hop_machine.specs.actors.MapperTurns.{begins, retries, backs_up, when_dry, given, nothing_left, acts, spill_end, must_fail, unless_spent, commits, fails, spills, runs_on, takes_turn, open_turn, mapper_turn};
     ghost use Rattle.hop_machine.specs.actors.MapperTurns as machine;
-    ghost use Rattle.hop_mapper.specs.Mappers.{mapper_of, SameStore};
+    ghost use Rattle.hop_machine.specs.home.MapperHome.{has_failed};
+    ghost use Rattle.hop_actors.specs.Acting.{said_turn, Maps};
+    ghost use Rattle.hop_actors.specs.Counting.{StoreCause, TurnCause};
+    ghost use Rattle.hop_mapper.specs.Mappers.{mapper_of, counts_of, FitsBoard, SameStore};
+    ghost use Rattle.hop_mapper.specs.Next.{IsNext};
+
+    // How many splits there are.
+    fn splits(&self) -> u32
+        ensures { result ≡ length (lens_of (book_of N.records N.settings)) }
+    {
+        self.book.splits()
+    }
+
+    // How many records the split has.
+    fn len_of(&self, split: u32) -> u32
+        requires { split < length (lens_of (book_of N.records N.settings)) }
+        ensures value { result ≡ slice_index (lens_of (book_of N.records N.settings)) split }
+        ensures few { result ≤ 16777216 }
+    {
+        self.book.len(split)
+    }
+
+    // How many records a spill has.
+    fn spill_size(&self) -> u32
+        ensures value { result ≡ N.settings.spill }
+        ensures few { result ≤ 65535 }
+    {
+        self.settings.spill
+    }
+
+    // How many attempts of a split may be begun.
+    fn limit(&self) -> u8
+        ensures value { result ≡ N.settings.attempts }
+        ensures few { result ≤ 16 }
+    {
+        self.settings.attempts
+    }
+
+    // Whether it begins backup attempts.
+    fn has_backup(&self) -> bool
+        ensures { result ≡ N.settings.backup }
+    {
+        self.settings.backup
+    }
+
+    // Its number.
+    fn worker(&self) -> u8
+        ensures { result ≡ self.now.vault.worker }
+    {
+        self.vault.worker()
+    }
 
     // A number of the split is drawn, and that attempt begun if it is below the limit.
     fn begin<E: Reach<N, Seat = K>>(&mut self, reach: &mut E, split: u32) -> Turn
         requires safe { Safe parts E.exact (begins (mapper_of N.records N.script N.settings self.old) split) (E.deeds reach.old) }
         ensures runs { Runs E.exact (begins (mapper_of N.records N.script N.settings self.old) split) (E.deeds reach.old) (mapper_of N.records N.script N.settings self.new, said_turn result) (E.deeds reach.new) }
         ensures same { SameStore self.old self.new }
+        ensures calm { has_failed (said_turn result) ≡ false }
     {
-        let number = draw_on(reach, self.vault.worker(), split);
-        if number < self.settings.attempts as u64 {
+        let number = draw_on::<N, E>(reach, self.worker(), split);
+        if number < self.limit() as u64 {
             let attempt = number as u8;
-            self.begun[split as usize] = attempt + 1;
-            self.work = Work::Runs {
-                split,
-                attempt,
-                done: 0,
-            };
+            note_begun(&mut self.begun, split, attempt);
+            self.work = Work::Runs(
+                Running {
+                    split,
+                    attempt,
+                    done: 0,
+                },
+            );
         } else {
             self.work = Work::Free;
         }
@@ -92,8 +157,9 @@ impl<'a, N: RunName, V: Folder, J: Job, G: Gate, K: Knowing> State<'a, N, V, J, 
         requires safe { Safe parts E.exact (retries (mapper_of N.records N.script N.settings self.old) split) (E.deeds reach.old) }
         ensures runs { Runs E.exact (retries (mapper_of N.records N.script N.settings self.old) split) (E.deeds reach.old) (mapper_of N.records N.script N.settings self.new, said_turn result) (E.deeds reach.new) }
         ensures same { SameStore self.old self.new }
+        ensures calm { has_failed (said_turn result) ≡ false }
     {
-        match winner_on(reach, Who::Mapper(self.vault.worker()), split) {
+        match winner_on::<N, E>(reach, Who::Mapper(self.worker()), split) {
             None => self.begin(reach, split),
             Some(_) => {
                 self.work = Work::Free;
@@ -102,9 +168,17 @@ impl<'a, N: RunName, V: Folder, J: Job, G: Gate, K: Knowing> State<'a, N, V, J, 
         }
     }
 
+    // Where it looks next for a split without a winner.
+    fn set_place(&mut self, place: u32)
+        ensures { self.new ≡ record self.old { place = place } }
+    {
+        self.place = place;
+    }
+
     // Nothing is left to begin: it has ended, but for what is held.
     fn nothing_left(&self) -> Turn
-        ensures { nothing_left (mapper_of N.records N.script N.settings self.now) ≡ (mapper_of N.records N.script N.settings self.now, said_turn result) }
+        ensures left { nothing_left (mapper_of N.records N.script N.settings self.now) ≡ (mapper_of N.records N.script N.settings self.now, said_turn result) }
+        ensures calm { has_failed (said_turn result) ≡ false }
     {
         if self.press.is_clear() {
             Turn::Ended
@@ -115,14 +189,18 @@ impl<'a, N: RunName, V: Folder, J: Job, G: Gate, K: Knowing> State<'a, N, V, J, 
 
     // The least split without a winner from its place on gets an attempt more.
     fn back_up<E: Reach<N, Seat = K>>(&mut self, reach: &mut E) -> Turn
-        requires safe { let m = mapper_of N.records N.script N.settings self.old in Safe parts E.exact (backs_up m (length m.rules.lens - m.place) m.place) (E.deeds reach.old) }
-        ensures runs { let m = mapper_of N.records N.script N.settings self.old in Runs E.exact (backs_up m (length m.rules.lens - m.place) m.place) (E.deeds reach.old) (mapper_of N.records N.script N.settings self.new, said_turn result) (E.deeds reach.new) }
+        requires safe { Safe parts E.exact (backs_up (mapper_of N.records N.script N.settings self.old) (length (lens_of (book_of N.records N.settings)) - self.old.place) self.old.place) (E.deeds reach.old) }
+        ensures runs { Runs E.exact (backs_up (mapper_of N.records N.script N.settings self.old) (length (lens_of (book_of N.records N.settings)) - self.old.place) self.old.place) (E.deeds reach.old) (mapper_of N.records N.script N.settings self.new, said_turn result) (E.deeds reach.new) }
         ensures same { SameStore self.old self.new }
+        ensures calm { has_failed (said_turn result) ≡ false }
     {
-        for split in self.place..self.book.splits() {
-            if winner_on(reach, Who::Mapper(self.vault.worker()), split).is_none() {
-                self.place = split + 1;
-                return self.begin(reach, split);
+        for split in self.place..self.splits() {
+            match winner_on::<N, E>(reach, Who::Mapper(self.worker()), split) {
+                None => {
+                    self.set_place(split + 1);
+                    return self.begin(reach, split);
+                }
+                Some(_) => {}
             }
         }
         self.nothing_left()
@@ -133,8 +211,9 @@ impl<'a, N: RunName, V: Folder, J: Job, G: Gate, K: Knowing> State<'a, N, V, J, 
         requires safe { Safe parts E.exact (when_dry (mapper_of N.records N.script N.settings self.old)) (E.deeds reach.old) }
         ensures runs { Runs E.exact (when_dry (mapper_of N.records N.script N.settings self.old)) (E.deeds reach.old) (mapper_of N.records N.script N.settings self.new, said_turn result) (E.deeds reach.new) }
         ensures same { SameStore self.old self.new }
+        ensures calm { has_failed (said_turn result) ≡ false }
     {
-        if self.settings.backup {
+        if self.has_backup() {
             self.back_up(reach)
         } else {
             self.nothing_left()
@@ -146,6 +225,7 @@ impl<'a, N: RunName, V: Folder, J: Job, G: Gate, K: Knowing> State<'a, N, V, J, 
         requires safe { Safe parts E.exact (given (mapper_of N.records N.script N.settings self.old) split) (E.deeds reach.old) }
         ensures runs { Runs E.exact (given (mapper_of N.records N.script N.settings self.old) split) (E.deeds reach.old) (mapper_of N.records N.script N.settings self.new, said_turn result) (E.deeds reach.new) }
         ensures same { SameStore self.old self.new }
+        ensures calm { has_failed (said_turn result) ≡ false }
     {
         match split {
             None => {
@@ -161,60 +241,468 @@ impl<'a, N: RunName, V: Folder, J: Job, G: Gate, K: Knowing> State<'a, N, V, J, 
         requires safe { Safe parts E.exact (acts (mapper_of N.records N.script N.settings self.old) machine.Free) (E.deeds reach.old) }
         ensures runs { Runs E.exact (acts (mapper_of N.records N.script N.settings self.old) machine.Free) (E.deeds reach.old) (mapper_of N.records N.script N.settings self.new, said_turn result) (E.deeds reach.new) }
         ensures same { SameStore self.old self.new }
+        ensures calm { has_failed (said_turn result) ≡ false }
     {
         if self.dry {
             self.when_dry(reach)
         } else {
-            let split = next_split_on(reach, self.vault.worker());
+            let split = next_split_on::<N, E>(reach, self.worker());
             self.take_given(reach, split)
         }
     }
 
     // Where the next spill of an attempt ends.
-    fn spill_end(&self, split: u32, done: u32) -> u32
-        requires split { split < length (lens_of (book_of N.records N.settings)) }
-        requires within { done ≤ 16777216 }
-        ensures { (attempt : ℕ) → result ≡ spill_end (rules_of N.records N.script N.settings) (record { split = split; attempt = attempt; done = done }) }
+    fn spill_end(&self, run: Running) -> u32
+        requires split { run.split < length (lens_of (book_of N.records N.settings)) }
+        requires within { run.done ≤ 16777216 }
+        ensures { result ≡ spill_end (rules_of N.records N.script N.settings) (running_of run) }
     {
-        (done + self.settings.spill).min(self.book.len(split))
+        (run.done + self.spill_size()).min(self.len_of(run.split))
+    }
+
+    // Where the script lets the attempt fail, if it does.
+    fn line_of(&self, run: Running) -> Option<u32>
+        ensures { result ≡ fails_at N.script run.split run.attempt }
+    {
+        self.script.fails_at(run.split, run.attempt)
     }
 
     // Whether the attempt fails before its next spill is whole, or at the end of its split.
-    fn must_fail(&self, split: u32, attempt: u8, done: u32) -> bool
-        requires split { split < length (lens_of (book_of N.records N.settings)) }
-        requires within { done ≤ 16777216 }
-        ensures { result ≡ must_fail (rules_of N.records N.script N.settings) (record { split = split; attempt = attempt; done = done }) }
+    fn must_fail(&self, run: Running) -> bool
+        requires split { run.split < length (lens_of (book_of N.records N.settings)) }
+        requires within { run.done ≤ 16777216 }
+        ensures { result ≡ must_fail (rules_of N.records N.script N.settings) (running_of run) }
     {
-        let end = self.spill_end(split, done);
-        let len = self.book.len(split);
-        fails_by(self.script.fails_at(split, attempt), len, done, end)
+        let line = self.line_of(run);
+        fails_by(line, self.len_of(run.split), run.done, self.spill_end(run))
     }
 
     // The split is spent where all its attempts are revoked and it has no winner.
     fn unless_spent<E: Reach<N, Seat = K>>(&self, reach: &mut E, split: u32, mask: u16) -> Turn
         requires safe { Safe parts E.exact (unless_spent (mapper_of N.records N.script N.settings self.now) split mask) (E.deeds reach.old) }
         ensures runs { Runs E.exact (unless_spent (mapper_of N.records N.script N.settings self.now) split mask) (E.deeds reach.old) (mapper_of N.records N.script N.settings self.now, said_turn result) (E.deeds reach.new) }
+        ensures ends { (E.deeds reach.new).ends ≡ (E.deeds reach.old).ends }
+        ensures cause { TurnCause (Maps (mapper_of N.records N.script N.settings self.now)) (counts_of V.seen self.now.vault) (counts_of V.seen self.now.vault) result }
     {
-        if !is_full(self.settings.attempts, mask) {
+        if !is_full(self.limit(), mask) {
             return Turn::Worked;
         }
-        match winner_on(reach, Who::Mapper(self.vault.worker()), split) {
+        match winner_on::<N, E>(reach, Who::Mapper(self.worker()), split) {
             None => Turn::Failed(Fault::SpentAt { split }),
             Some(_) => Turn::Worked,
         }
     }
 }
 
-// The attempt commits; where it lost, it is revoked. Its end of the board knows what became of it.
-fn commit_or_revoke<N: RunName, E: Reach<N>>(reach: &mut E, w: u8, split: u32, attempt: u8)
-    requires safe { Safe parts E.exact (settles w (record { split = split; attempt = attempt; done = 0 })) (E.deeds reach.old) }
-    ensures runs { Runs E.exact (settles w (record { split = split; attempt = attempt; done = 0 })) (E.deeds reach.old) tt (E.deeds reach.new) }
-    ensures known { KnowsVerdict ((E.deeds reach.new).told.knows (actor.Mapper w)) split attempt }
-{
-    match commit_on(reach, w, split, attempt) {
-        Verdict::Won => {}
-        Verdict::Lost { .. } => {
-            let _mask = revoke_on(reach, w, split, attempt);
+impl<'a, N: RunName, V: Folder, J: Job, G: Gate, K: Knowing> State<'a, N, V, J, G, K> {
+    ghost use Rattle.std.specs.Prelude.{List, Option, OnErr, ◌≢◌, ◌^◌};
+    ghost use Rattle.std.specs.List.{range_with_len};
+    ghost use Rattle.hop_base.specs.Run.{delay_of};
+    ghost use Rattle.hop_run.specs.Runs.{RunStands, combined_run, empty_run};
+    ghost use Rattle.hop_shelf.specs.Names.{book_of, rules_of, pairs_of};
+    ghost use Rattle.hop_spill.specs.Spelling.{IsSpill, spill_in};
+    ghost use Rattle.hop_spill.specs.SpillFiles.{spill_made};
+    ghost use Rattle.hop_vault.specs.Rows.{SameRows};
+    ghost use Rattle.hop_machine.specs.declared.words.Message.TheVariants as machine_message;
+    ghost use Rattle.hop_machine.specs.step.Steps.{BoardEnd};
+    ghost use Rattle.hop_machine.specs.actors.MapperTurns.{acts, commits, fails, offer, spills, runs_on, takes_turn, open_turn, mapper_turn, each_lane};
+    ghost use Rattle.hop_machine.specs.home.MapperHome.{has_failed};
+    ghost use Rattle.hop_press.specs.Fits.{IsWhole};
+    ghost use Rattle.hop_press.specs.Held.{said_lanes, lanes_left};
+    ghost use Rattle.hop_actors.specs.Acting.{said_turn, Maps, MayMap};
+    ghost use Rattle.hop_actors.specs.Counting.{StoreCause, TurnCause};
+    ghost use Rattle.hop_mapper.specs.Mappers.{mapper_of, work_of, counts_of, FitsBoard, SameButVault, SameButHeld};
+    ghost use Rattle.hop_mapper.specs.Next.{IsNext, RunsHere, WorksHere, AddsSpill, AddsAtMost, split_len};
+
+    // What it has to do from now on.
+    fn set_work(&mut self, work: Work)
+        ensures { self.new ≡ record self.old { work = work } }
+    {
+        self.work = work;
+    }
+
+    // Each lane is offered the notice of the attempt.
+    fn give_notice<E: Reach<N, Seat = K>>(&mut self, reach: &mut E, run: Running) -> Result<(), NoMemory>
+        requires well { self.old.failed ≡ false }
+        requires end { (E.deeds reach.old).ends.has (BoardEnd (actor.Mapper self.old.vault.worker)) ≡ true }
+        requires known { KnowsVerdict ((E.deeds reach.old).told.knows (actor.Mapper self.old.vault.worker)) run.split run.attempt }
+        requires safe { Safe parts E.exact (each_lane (offer self.old.vault.worker (machine_message.Notice run.split run.attempt)) 0 (said_lanes self.old.held)) (E.deeds reach.old) }
+        requires fits { FitsBoard N.job N.records N.settings N.tells K.knows K.board self.old (E.deeds reach.old) }
+        ensures runs { Runs E.exact (each_lane (offer self.old.vault.worker (machine_message.Notice run.split run.attempt)) 0 (said_lanes self.old.held)) (E.deeds reach.old) (lanes_left result (said_lanes self.new.held)) (E.deeds reach.new) }
+        ensures same { SameButHeld self.old self.new }
+        ensures fits { FitsBoard N.job N.records N.settings N.tells K.knows K.board self.new (E.deeds reach.new) }
+    {
+        let worker = self.vault.worker();
+        self.press.notice_all::<N, E>(reach, worker, run.split, run.attempt)
+    }
+
+    // Each lane is offered its part of a kept spill.
+    fn give_parts<E: Reach<N, Seat = K>>(&mut self, reach: &mut E, part: Part, runs: Runs) -> Result<(), NoMemory>
+        requires well { self.old.failed ≡ false }
+        requires whole { IsWhole self.old.vault.rows part }
+        requires runs { runs ≡ map (combined_run N.job N.records N.settings.split N.settings.reducers part) (range_with_len 0 N.settings.reducers) }
+        requires some { part.from < part.to }
+        requires stands { (p : ℕ) → p < N.settings.reducers → RunStands N.job.reduced (pairs_of N.job N.records N.settings p) (slice_index_or runs p empty_run) }
+        requires safe { Safe parts E.exact (each_lane (offer self.old.vault.worker (machine_message.Range part)) 0 (said_lanes self.old.held)) (E.deeds reach.old) }
+        requires fits { FitsBoard N.job N.records N.settings N.tells K.knows K.board self.old (E.deeds reach.old) }
+        ensures runs { Runs E.exact (each_lane (offer self.old.vault.worker (machine_message.Range part)) 0 (said_lanes self.old.held)) (E.deeds reach.old) (lanes_left result (said_lanes self.new.held)) (E.deeds reach.new) }
+        ensures same { SameButHeld self.old self.new }
+        ensures fits { FitsBoard N.job N.records N.settings N.tells K.knows K.board self.new (E.deeds reach.new) }
+    {
+        let worker = self.vault.worker();
+        self.press.offer_all::<N, E>(reach, worker, part, runs)
+    }
+
+    // It must fail here: it is revoked, each lane has the notice, and its split is tried again.
+    fn fail<E: Reach<N, Seat = K>>(&mut self, reach: &mut E, run: Running) -> Turn
+        requires well { self.old.failed ≡ false }
+        requires safe { Safe parts E.exact (fails (mapper_of N.records N.script N.settings self.old) (running_of run)) (E.deeds reach.old) }
+        requires fits { FitsBoard N.job N.records N.settings N.tells K.knows K.board self.old (E.deeds reach.old) }
+        ensures runs { Runs E.exact (fails (mapper_of N.records N.script N.settings self.old) (running_of run)) (E.deeds reach.old) (mapper_of N.records N.script N.settings self.new, said_turn result) (E.deeds reach.new) }
+        ensures vault { self.new.vault ≡ self.old.vault }
+        ensures well { self.new.failed ≡ false }
+        ensures fits { FitsBoard N.job N.records N.settings N.tells K.knows K.board self.new (E.deeds reach.new) }
+        ensures cause { TurnCause (Maps (mapper_of N.records N.script N.settings self.old)) (counts_of V.seen self.old.vault) (counts_of V.seen self.new.vault) result }
+    {
+        let mask = revoke_on::<N, E>(reach, self.worker(), run.split, run.attempt);
+        self.set_work(Work::Retries { split: run.split });
+        match self.give_notice(reach, run) {
+            Ok(()) => self.unless_spent(reach, run.split, mask),
+            Err(NoMemory) => Turn::Failed(Fault::NoMemory),
         }
     }
+
+    // All its records are done: it commits, is revoked if it lost, and is over; each lane has the notice.
+    fn commit<E: Reach<N, Seat = K>>(&mut self, reach: &mut E, run: Running) -> Turn
+        requires well { self.old.failed ≡ false }
+        requires safe { Safe parts E.exact (commits (mapper_of N.records N.script N.settings self.old) (running_of run)) (E.deeds reach.old) }
+        requires fits { FitsBoard N.job N.records N.settings N.tells K.knows K.board self.old (E.deeds reach.old) }
+        ensures runs { Runs E.exact (commits (mapper_of N.records N.script N.settings self.old) (running_of run)) (E.deeds reach.old) (mapper_of N.records N.script N.settings self.new, said_turn result) (E.deeds reach.new) }
+        ensures vault { self.new.vault ≡ self.old.vault }
+        ensures well { self.new.failed ≡ false }
+        ensures fits { FitsBoard N.job N.records N.settings N.tells K.knows K.board self.new (E.deeds reach.new) }
+        ensures cause { TurnCause (Maps (mapper_of N.records N.script N.settings self.old)) (counts_of V.seen self.old.vault) (counts_of V.seen self.new.vault) result }
+    {
+        commit_or_revoke::<N, E>(reach, self.worker(), run);
+        self.set_work(Work::Free);
+        match self.give_notice(reach, run) {
+            Ok(()) => Turn::Worked,
+            Err(NoMemory) => Turn::Failed(Fault::NoMemory),
+        }
+    }
+
+    // The combined runs of a range, one for each reducer.
+    fn runs_of(&self, part: Part) -> Result<Runs, NoMemory>
+        requires next { IsNext N.records N.settings self.now.vault.rows part }
+        ensures runs { IfOk result (λ runs. runs ≡ map (combined_run N.job N.records N.settings.split N.settings.reducers part) (range_with_len 0 N.settings.reducers)) }
+        ensures stands { IfOk result (λ runs. (p : ℕ) → p < N.settings.reducers → RunStands N.job.reduced (pairs_of N.job N.records N.settings p) (slice_index_or runs p empty_run)) }
+    {
+        Run::make_all(self.alloc, self.job, self.book, part, self.settings.reducers)
+    }
+
+    // The spill of a range is kept.
+    fn put(&mut self, part: Part, spill: &FlatSpill) -> Result<(), Fault>
+        requires next { IsNext N.records N.settings self.old.vault.rows part }
+        requires value { spill_in spill.now ≡ spill_made N.job N.records N.settings.split N.settings.reducers part }
+        requires spill { IsSpill (spill_made N.job N.records N.settings.split N.settings.reducers part) }
+        ensures adds { OnOk result (AddsSpill N.job N.records N.settings (V.seen self.old.vault.folder).held (V.seen self.new.vault.folder).held self.old.vault.rows self.new.vault.rows part) }
+        ensures rows { OnErr result (SameRows self.old.vault.rows self.new.vault.rows) }
+        ensures rest { SameButVault self.old self.new }
+        ensures answered { OnOk result (counts_of V.seen self.new.vault ≡ counts_of V.seen self.old.vault) }
+        ensures cause { IfErr result (StoreCause self.old.vault.worker (counts_of V.seen self.old.vault) (counts_of V.seen self.new.vault)) }
+    {
+        match self.vault.keep_flat(spill) {
+            Ok(()) => Ok(()),
+            Err(KeepFault::StoreFailed) => Err(Fault::SpillFailed { worker: self.worker() }),
+            Err(KeepFault::NoMemory) => Err(Fault::NoMemory),
+        }
+    }
+
+    // The records of a range are mapped, and the spill of their runs is kept.
+    fn keep(&mut self, part: Part) -> Result<Runs, Fault>
+        requires next { IsNext N.records N.settings self.old.vault.rows part }
+        ensures adds { OnOk result (AddsSpill N.job N.records N.settings (V.seen self.old.vault.folder).held (V.seen self.new.vault.folder).held self.old.vault.rows self.new.vault.rows part) }
+        ensures rows { OnErr result (SameRows self.old.vault.rows self.new.vault.rows) }
+        ensures rest { SameButVault self.old self.new }
+        ensures answered { OnOk result (counts_of V.seen self.new.vault ≡ counts_of V.seen self.old.vault) }
+        ensures cause { IfErr result (StoreCause self.old.vault.worker (counts_of V.seen self.old.vault) (counts_of V.seen self.new.vault)) }
+        ensures runs { IfOk result (λ runs. runs ≡ map (combined_run N.job N.records N.settings.split N.settings.reducers part) (range_with_len 0 N.settings.reducers)) }
+        ensures stands { IfOk result (λ runs. (p : ℕ) → p < N.settings.reducers → RunStands N.job.reduced (pairs_of N.job N.records N.settings p) (slice_index_or runs p empty_run)) }
+    {
+        let Ok(runs) = self.runs_of(part) else {
+            return Err(Fault::NoMemory);
+        };
+        let Ok(spill) = spill_of(self.alloc, part, &runs) else {
+            return Err(Fault::NoMemory);
+        };
+        match self.put(part, &spill) {
+            Ok(()) => Ok(runs),
+            Err(fault) => Err(fault),
+        }
+    }
+
+    // The next spill is made and kept, and each lane is offered its part.
+    fn spill<E: Reach<N, Seat = K>>(&mut self, reach: &mut E, run: Running) -> Turn
+        requires well { self.old.failed ≡ false }
+        requires here { RunsHere N.records N.settings self.old.vault.rows (running_of run) }
+        requires more { run.done ≢ split_len N.records N.settings run.split }
+        requires safe { Safe parts E.exact (spills (mapper_of N.records N.script N.settings self.old) (running_of run)) (E.deeds reach.old) }
+        requires fits { FitsBoard N.job N.records N.settings N.tells K.knows K.board self.old (E.deeds reach.old) }
+        ensures runs { Runs E.exact (spills (mapper_of N.records N.script N.settings self.old) (running_of run)) (E.deeds reach.old) (mapper_of N.records N.script N.settings self.new, said_turn result) (E.deeds reach.new) }
+        ensures well { self.new.failed ≡ false }
+        ensures fits { FitsBoard N.job N.records N.settings N.tells K.knows K.board self.new (E.deeds reach.new) }
+        ensures cause { TurnCause (Maps (mapper_of N.records N.script N.settings self.old)) (counts_of V.seen self.old.vault) (counts_of V.seen self.new.vault) result }
+        ensures adds { has_failed (said_turn result) ≡ false → AddsAtMost N.job N.records N.settings (V.seen self.old.vault.folder).held (V.seen self.new.vault.folder).held self.old.vault.rows self.new.vault.rows }
+    {
+        let part = run.part(self.spill_end(run));
+        match self.keep(part) {
+            Ok(runs) => {
+                self.set_work(Work::Runs(run.at(part.to)));
+                self.pass_gate(part);
+                match self.give_parts(reach, part, runs) {
+                    Ok(()) => Turn::Worked,
+                    Err(NoMemory) => Turn::Failed(Fault::NoMemory),
+                }
+            }
+            Err(fault) => Turn::Failed(fault),
+        }
+    }
+
+    // The gate lets it pass, once the spill of a range is kept.
+    fn pass_gate(&self, part: Part) {
+        self.gate.pass(
+            Point::Spill {
+                worker: self.vault.worker(),
+                split: part.split,
+                attempt: part.attempt,
+                to: part.to,
+            },
+        );
+    }
+
+    // An attempt runs: it fails, commits or spills.
+    fn run_on<E: Reach<N, Seat = K>>(&mut self, reach: &mut E, run: Running) -> Turn
+        requires well { self.old.failed ≡ false }
+        requires here { RunsHere N.records N.settings self.old.vault.rows (running_of run) }
+        requires safe { Safe parts E.exact (runs_on (mapper_of N.records N.script N.settings self.old) (running_of run)) (E.deeds reach.old) }
+        requires fits { FitsBoard N.job N.records N.settings N.tells K.knows K.board self.old (E.deeds reach.old) }
+        ensures runs { Runs E.exact (runs_on (mapper_of N.records N.script N.settings self.old) (running_of run)) (E.deeds reach.old) (mapper_of N.records N.script N.settings self.new, said_turn result) (E.deeds reach.new) }
+        ensures well { self.new.failed ≡ false }
+        ensures fits { FitsBoard N.job N.records N.settings N.tells K.knows K.board self.new (E.deeds reach.new) }
+        ensures cause { TurnCause (Maps (mapper_of N.records N.script N.settings self.old)) (counts_of V.seen self.old.vault) (counts_of V.seen self.new.vault) result }
+        ensures adds { has_failed (said_turn result) ≡ false → AddsAtMost N.job N.records N.settings (V.seen self.old.vault.folder).held (V.seen self.new.vault.folder).held self.old.vault.rows self.new.vault.rows }
+    {
+        if self.must_fail(run) {
+            self.fail(reach, run)
+        } else if run.done == self.len_of(run.split) {
+            self.commit(reach, run)
+        } else {
+            self.spill(reach, run)
+        }
+    }
+
+    // What it does in a turn, by what it has to do.
+    fn act<E: Reach<N, Seat = K>>(&mut self, reach: &mut E) -> Turn
+        requires well { self.old.failed ≡ false }
+        requires here { WorksHere N.records N.settings self.old.vault.rows (work_of self.old.work) }
+        requires safe { Safe parts E.exact (acts (mapper_of N.records N.script N.settings self.old) (work_of self.old.work)) (E.deeds reach.old) }
+        requires fits { FitsBoard N.job N.records N.settings N.tells K.knows K.board self.old (E.deeds reach.old) }
+        ensures runs { Runs E.exact (acts (mapper_of N.records N.script N.settings self.old) (work_of self.old.work)) (E.deeds reach.old) (mapper_of N.records N.script N.settings self.new, said_turn result) (E.deeds reach.new) }
+        ensures well { self.new.failed ≡ false }
+        ensures fits { FitsBoard N.job N.records N.settings N.tells K.knows K.board self.new (E.deeds reach.new) }
+        ensures cause { TurnCause (Maps (mapper_of N.records N.script N.settings self.old)) (counts_of V.seen self.old.vault) (counts_of V.seen self.new.vault) result }
+        ensures adds { has_failed (said_turn result) ≡ false → AddsAtMost N.job N.records N.settings (V.seen self.old.vault.folder).held (V.seen self.new.vault.folder).held self.old.vault.rows self.new.vault.rows }
+    {
+        match self.work {
+            Work::Runs(run) => self.run_on(reach, run),
+            Work::Retries { split } => self.retry(reach, split),
+            Work::Free => self.ask(reach),
+        }
+    }
+
+    // What is held is flushed, and then it acts.
+    fn take_turn<E: Reach<N, Seat = K>>(&mut self, reach: &mut E) -> Turn
+        requires well { self.old.failed ≡ false }
+        requires here { WorksHere N.records N.settings self.old.vault.rows (work_of self.old.work) }
+        requires safe { Safe parts E.exact (takes_turn (mapper_of N.records N.script N.settings self.old)) (E.deeds reach.old) }
+        requires fits { FitsBoard N.job N.records N.settings N.tells K.knows K.board self.old (E.deeds reach.old) }
+        ensures runs { Runs E.exact (takes_turn (mapper_of N.records N.script N.settings self.old)) (E.deeds reach.old) (mapper_of N.records N.script N.settings self.new, said_turn result) (E.deeds reach.new) }
+        ensures well { has_failed (said_turn result) ≡ false → self.new.failed ≡ false }
+        ensures fits { FitsBoard N.job N.records N.settings N.tells K.knows K.board self.new (E.deeds reach.new) }
+        ensures cause { TurnCause (Maps (mapper_of N.records N.script N.settings self.old)) (counts_of V.seen self.old.vault) (counts_of V.seen self.new.vault) result }
+        ensures adds { has_failed (said_turn result) ≡ false → AddsAtMost N.job N.records N.settings (V.seen self.old.vault.folder).held (V.seen self.new.vault.folder).held self.old.vault.rows self.new.vault.rows }
+    {
+        let worker = self.worker();
+        match self.press.flush_all::<N, E, J, V>(reach, worker, self.job, &mut self.vault) {
+            Ok(()) => self.act(reach),
+            Err(fault) => {
+                self.failed = true;
+                Turn::Failed(flush_fault(worker, fault))
+            }
+        }
+    }
+
+    // A turn of a mapper that has not ended: the first ones do nothing, as many as the script delays it.
+    fn open_turn<E: Reach<N, Seat = K>>(&mut self, reach: &mut E) -> Turn
+        requires well { self.old.failed ≡ false }
+        requires turns { self.old.turns < 2 ^ 56 }
+        requires here { WorksHere N.records N.settings self.old.vault.rows (work_of self.old.work) }
+        requires safe { Safe parts E.exact (open_turn (mapper_of N.records N.script N.settings self.old)) (E.deeds reach.old) }
+        requires fits { FitsBoard N.job N.records N.settings N.tells K.knows K.board self.old (E.deeds reach.old) }
+        ensures runs { Runs E.exact (open_turn (mapper_of N.records N.script N.settings self.old)) (E.deeds reach.old) (mapper_of N.records N.script N.settings self.new, said_turn result) (E.deeds reach.new) }
+        ensures well { has_failed (said_turn result) ≡ false → self.new.failed ≡ false }
+        ensures fits { FitsBoard N.job N.records N.settings N.tells K.knows K.board self.new (E.deeds reach.new) }
+        ensures cause { TurnCause (Maps (mapper_of N.records N.script N.settings self.old)) (counts_of V.seen self.old.vault) (counts_of V.seen self.new.vault) result }
+        ensures adds { has_failed (said_turn result) ≡ false → AddsAtMost N.job N.records N.settings (V.seen self.old.vault.folder).held (V.seen self.new.vault.folder).held self.old.vault.rows self.new.vault.rows }
+    {
+        let turns = self.turns;
+        self.turns = turns + 1;
+        if turns < self.delay() as u64 {
+            Turn::Idle
+        } else {
+            self.take_turn(reach)
+        }
+    }
+
+    // How many of its first turns it idles.
+    fn delay(&self) -> u32
+        ensures { result ≡ delay_of N.script self.now.vault.worker }
+    {
+        self.script.delay(self.vault.worker())
+    }
+
+    // One turn.
+    pub fn turn<E: Reach<N, Seat = K>>(&mut self, reach: &mut E) -> Turn
+        requires well { self.old.failed ≡ false }
+        requires may { MayMap (mapper_of N.records N.script N.settings self.old) (E.deeds reach.old) }
+        requires fits { FitsBoard N.job N.records N.settings N.tells K.knows K.board self.old (E.deeds reach.old) }
+        ensures runs { Runs E.exact (mapper_turn (mapper_of N.records N.script N.settings self.old)) (E.deeds reach.old) (mapper_of N.records N.script N.settings self.new, said_turn result) (E.deeds reach.new) }
+        ensures failed { self.new.failed ≡ has_failed (said_turn result) }
+        ensures fits { FitsBoard N.job N.records N.settings N.tells K.knows K.board self.new (E.deeds reach.new) }
+        ensures cause { TurnCause (Maps (mapper_of N.records N.script N.settings self.old)) (counts_of V.seen self.old.vault) (counts_of V.seen self.new.vault) result }
+        ensures adds { has_failed (said_turn result) ≡ false → AddsAtMost N.job N.records N.settings (V.seen self.old.vault.folder).held (V.seen self.new.vault.folder).held self.old.vault.rows self.new.vault.rows }
+    {
+        mapper_is_safe();
+        mapper_says();
+        if self.ended {
+            self.turns += 1;
+            return Turn::Ended;
+        }
+        let turn = self.open_turn(reach);
+        self.ended = matches!(turn, Turn::Ended);
+        self.failed = matches!(turn, Turn::Failed(_));
+        turn
+    }
+}
+
+impl<'a, N: RunName, V: Folder + Drop, J: Job, G: Gate, K: Knowing> State<'a, N, V, J, G, K> {
+    ghost use Rattle.std.specs.Prelude.{replicate, IsTrue, IsSome, []};
+    ghost use Rattle.hop_shelf.specs.Names.{book_of, rules_of, IsRun};
+    ghost use Rattle.hop_machine.specs.home.Starts.{new_mapper};
+    ghost use Rattle.hop_press.specs.Held.{no_lane};
+    ghost use Rattle.hop_mapper.specs.Mappers.{mapper_of, settings_of};
+
+    // A mapper without an attempt.
+    pub fn new(
+        alloc: Global,
+        vault: Vault<V>,
+        press: Press<K>,
+        book: &'a Book,
+        job: &'a J,
+        script: &'a Script,
+        gate: &'a G,
+        settings: &'a Settings,
+    ) -> Result<State<'a, N, V, J, G, K>, NoMemory>
+        requires run { IsRun N.job N.records N.settings }
+        requires job { J.meaning job.now ≡ N.job }
+        requires book { book.now ≡ book_of N.records N.settings }
+        requires script { script.now ≡ N.script }
+        requires settings { settings_of settings.now ≡ N.settings }
+        requires vault { vault.rows ≡ [] }
+        requires told { IsTrue N.tells → IsSome (V.seen vault.folder).held }
+        requires press { press ≡ replicate N.settings.reducers no_lane }
+        ensures made { IfOk result (λ m. mapper_of N.records N.script N.settings m ≡ new_mapper vault.worker (rules_of N.records N.script N.settings) N.settings.backup N.settings.reducers) }
+        ensures vault { IfOk result (λ m. m.vault ≡ vault) }
+        ensures held { IfOk result (λ m. m.held ≡ press) }
+        ensures well { IfOk result (λ m. m.failed ≡ false) }
+    {
+        let begun = none_begun(alloc, book.splits())?;
+        Ok(State {
+            alloc,
+            vault,
+            press,
+            book,
+            job,
+            script,
+            gate,
+            settings,
+            turns: 0,
+            work: Work::Free,
+            dry: false,
+            place: 0,
+            begun,
+            ended: false,
+            failed: false,
+            name: PhantomData,
+        })
+    }
+
+}
+
+impl<'a, N: RunName, V: Folder, J: Job, G: Gate, K: Knowing> State<'a, N, V, J, G, K> {
+    ghost use Rattle.hop_mapper.specs.Mappers.{mapper_of};
+
+    // Its vault.
+    pub fn into_vault(self) -> Vault<V>
+        ensures { result ≡ self.vault }
+    {
+        let State { vault, .. } = self;
+        vault
+    }
+
+    // The end of the kept spills of the attempt.
+    pub fn kept(&self, split: u32, attempt: u8) -> u32
+        ensures { result ≡ (mapper_of N.records N.script N.settings self.now).kept split attempt }
+    {
+        self.vault.kept(split, attempt)
+    }
+
+    // One more than the greatest attempt of the split that it began.
+    pub fn begun(&self, split: u32) -> u8
+        ensures { result ≡ (mapper_of N.records N.script N.settings self.now).begun split }
+    {
+        self.begun.get(split as usize).copied().unwrap_or(0)
+    }
+}
+
+// No attempt of so many splits was begun.
+fn none_begun(alloc: Global, splits: u32) -> Result<Vec<u8>, NoMemory>
+    ensures { IfOk result (λ begun. begun.items ≡ replicate splits 0) }
+{
+    let begun = vec![in alloc; 0u8; splits as usize]?;
+    Ok(begun)
+}
+
+// The attempt commits; where it lost, it is revoked. Its end of the board knows what became of it.
+fn commit_or_revoke<N: RunName, E: Reach<N>>(reach: &mut E, w: u8, run: Running)
+    requires safe { Safe parts E.exact (settles w (running_of run)) (E.deeds reach.old) }
+    ensures runs { Runs E.exact (settles w (running_of run)) (E.deeds reach.old) tt (E.deeds reach.new) }
+    ensures known { KnowsVerdict ((E.deeds reach.new).told.knows (actor.Mapper w)) run.split run.attempt }
+    ensures ends { (E.deeds reach.new).ends ≡ (E.deeds reach.old).ends }
+{
+    match commit_on::<N, E>(reach, w, run.split, run.attempt) {
+        Verdict::Won => {}
+        Verdict::Lost { .. } => {
+            let _mask = revoke_on::<N, E>(reach, w, run.split, run.attempt);
+        }
+    }
+}
+
+// One more than this attempt of the split was begun.
+fn note_begun(begun: &mut Vec<u8>, split: u32, attempt: u8)
+    requires split { split < length begun.old.items }
+    requires attempt { attempt < 16 }
+    ensures { begun.new.items ≡ slice_set begun.old.items split (attempt + 1) }
+{
+    begun[split as usize] = attempt + 1;
 }
