@@ -2,7 +2,7 @@
 use Rattle.std.proofs.Common.{◌≡◌, ℕ, zero, suc, ◌+◌, ◌<◌, eqb, cond, Bool, true, false, List, [], ◌∷◌, ◌++◌, length, take, drop, map, get_or, refl, sym, ap, ◌∙◌, subst, arith, append-nil, append_assoc}
 use Rattle.std.specs.Prelude.{slice_set}
 use Rattle.std.proofs.lemmas.Bool.{eqb-true, eq-eqb, true≢false}
-use Rattle.std.proofs.lemmas.List.{get_or-set_same, get_or-set_other, take-set, drop-set-lt, take_more_set, drop_more, map-append, length-set, take_all, take-append-drop}
+use Rattle.std.proofs.lemmas.List.{get_or-set_same, get_or-set_other, take-set, drop-set-lt, take_more_set, drop_more, map-append, length-set, take_all, drop_all, take-append-drop}
 use Rattle.hop_machine.specs.declared.words.Message.{Message as Said}
 use Rattle.hop_machine.specs.step.Steps.{Deeds, Prog, Done, Then, and_then, Runs}
 use Rattle.hop_machine.specs.actors.MapperTurns.{Lane, Lanes, each_lane}
@@ -17,7 +17,7 @@ safe_first parts e (Then s k) f a h = (h.0, λ o b st. safe_first parts e (k o) 
 
 module _ (parts : ℕ) (e : Bool) (f : ℕ → List Said → Prog Lane) (p : ℕ) (h : List Said) (hs : List (List Said)) (a b : Deeds) (held : List Said) where
   -- what the program goes on with after a lane
-  rest : Lane → Prog Lanes
+  abbrev pub rest : Lane → Prog Lanes
   rest x = cond x.went (and_then (each_lane f (p + 1) hs) (λ (xs : Lanes). Done (record { went = xs.went; held = x.held ∷ xs.held }))) (Done (record { went = false; held = x.held ∷ hs }))
 
   next_safe : Safe parts e (each_lane f p (h ∷ hs)) a → Runs e (f p h) a (record { went = true; held = held }) b → Safe parts e (each_lane f (p + 1) hs) b
@@ -31,6 +31,12 @@ module _ (parts : ℕ) (e : Bool) (f : ℕ → List Said → Prog Lane) (p : ℕ
   stopped_runs : Runs e (f p h) a (record { went = false; held = held }) b → Runs e (each_lane f p (h ∷ hs)) a (record { went = false; held = held ∷ hs }) b
   stopped_runs r = Runs-and_then e (f p h) rest a b b (record { went = false; held = held }) (record { went = false; held = held ∷ hs }) r (refl, refl)
 
+-- an element that is there is the same by any default
+pub any_default : {X : Type 0} (xs : List X) (p : ℕ) (x y : X) → p < length xs → get_or xs p x ≡ get_or xs p y
+any_default [] p x y lt = absurd (omega arith)
+any_default (l ∷ xs) zero x y lt = refl
+any_default (l ∷ xs) (suc p) x y lt = any_default xs p x y (omega arith)
+
 module _ {K : Type 0} where
   -- what each lane meets, they meet where one of them is set
   pub each_set : (P : ℕ → LaneValue K → Type 0) (old new : List (LaneValue K)) (p : ℕ) → p < length old → OnlyAt p old new → ((q : ℕ) → P q (lane_at old q)) → P p (lane_at new p) → (q : ℕ) → P q (lane_at new q)
@@ -40,17 +46,16 @@ module _ {K : Type 0} where
       step true s = subst (λ k. P k (lane_at new k)) (sym (eqb-true q p s)) here
       step false s = subst (λ (x : LaneValue K). P q x) (sym (ap (λ (ls : List (LaneValue K)). lane_at ls q) only ∙ get_or-set_other old p q (lane_at new p) no_lane (λ (k : q ≡ p). true≢false (sym (eq-eqb q p k) ∙ s)))) (h q)
 
+  pub set_each : (P : ℕ → LaneValue K → Type 0) (ls : List (LaneValue K)) (p : ℕ) (x : LaneValue K) → p < length ls → ((q : ℕ) → P q (lane_at ls q)) → P p x → (q : ℕ) → P q (lane_at (slice_set ls p x) q)
+  set_each P ls p x lt h here q =
+      let same : lane_at (slice_set ls p x) p ≡ x = get_or-set_same ls p x no_lane lt in
+      each_set P ls (slice_set ls p x) p lt (ap (λ (y : LaneValue K). slice_set ls p y) (sym same)) h (subst (λ (y : LaneValue K). P p y) (sym same) here) q
+
   pub set_len : (old new : List (LaneValue K)) (p : ℕ) → OnlyAt p old new → length new ≡ length old
   set_len old new p only = ap (λ (ls : List (LaneValue K)). length ls) only ∙ length-set old p (lane_at new p)
 
-  -- an element that is there is the same by any default
   pub there : (ls : List (LaneValue K)) (p : ℕ) (x : LaneValue K) → p < length ls → x ≡ get_or ls p x → x ≡ lane_at ls p
-  there ls p x lt h = h ∙ same ls p x no_lane lt
-    where
-      same : (ls : List (LaneValue K)) (p : ℕ) (x y : LaneValue K) → p < length ls → get_or ls p x ≡ get_or ls p y
-      same [] p x y lt = absurd (omega arith)
-      same (l ∷ ls) zero x y lt = refl
-      same (l ∷ ls) (suc p) x y lt = same ls p x y (omega arith)
+  there ls p x lt h = h ∙ any_default ls p x no_lane lt
 
   pub is_only : (ls : List (LaneValue K)) (p : ℕ) (x : LaneValue K) → p < length ls → OnlyAt p ls (slice_set ls p x)
   is_only ls p x lt = ap (λ (y : LaneValue K). slice_set ls p y) (sym (get_or-set_same ls p x no_lane lt))

@@ -6,9 +6,9 @@ use Rattle.hop_vault.specs.Rows.{Table, row_of, kept_end, IsChain, IsStretch}
 use Rattle.hop_press.specs.Fits.{AreChained, IsWhole}
 
 -- a chain ends no earlier than it begins
-chain_le : (s : ℕ) (xs : List Kept) (e : ℕ) → IsChain s xs e → s ≤ e
+pub chain_le : (s : ℕ) (xs : List Kept) (e : ℕ) → IsChain s xs e → s ≤ e
 chain_le s [] e h = omega (arith, h)
-chain_le s (x ∷ xs) e h = let t : x.to ≤ e = chain_le x.to xs e h.2 in let u : s ≡ x.from = sym h.0 in let v : s < x.to = subst (λ n. n < x.to) h.0 h.1 in omega arith
+chain_le s (x ∷ xs) e h = let t : x.to ≤ e = chain_le x.to xs e h.2 in let v : s < x.to = h.1 in omega arith
 
 -- a chain of some ends later
 chain_lt : (s : ℕ) (x : Kept) (xs : List Kept) (e : ℕ) → IsChain s (x ∷ xs) e → s < e

@@ -1,5 +1,9 @@
 -- Why a flush stops, and what a count of faults tells then.
-use Rattle.std.specs.Prelude.{◌≡◌, ℕ}
+use Rattle.std.specs.Prelude.{◌≡◌, ℕ, List}
+use Rattle.std.specs.List.{flat_map}
+use Rattle.hop_base.specs.declared.value.Pair.{Pair}
+use Rattle.hop_vault.specs.declared.kept.FetchFault.{FetchFault}
+use Rattle.hop_vault.specs.declared.kept.FetchFault.TheVariants as fetch
 use Rattle.hop_base.specs.declared.part.Part.{Part}
 use Rattle.hop_base.specs.Causes.{Rose}
 use Rattle.hop_ports.specs.Views.{FolderView}
@@ -21,3 +25,15 @@ FlushAnswered old new SpillFailed = Unit {0}
 FlushAnswered old new (Damaged at kept found) = new.gets ≡ old.gets
 FlushAnswered old new (Collides at place) = new.gets ≡ old.gets
 FlushAnswered old new NoMemory = new.gets ≡ old.gets
+
+-- a fetch's fault as a flush's
+abbrev pub fault_in : FetchFault → FlushFault
+fault_in fetch.StoreFailed = SpillFailed
+fault_in (fetch.Damaged at kept found) = Damaged at kept found
+fault_in (fetch.Collides at place) = Collides at place
+fault_in (fetch.NotKept have) = NoMemory
+fault_in fetch.NoMemory = NoMemory
+
+-- the pairs of some sheets, one sheet after the other
+abbrev pub pairs_in : List (List Pair) → List Pair
+pairs_in sheets = flat_map (λ sheet. sheet) sheets

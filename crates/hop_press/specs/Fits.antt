@@ -14,6 +14,8 @@ use Rattle.hop_spill.specs.SpillFiles.{name_of, spill_made}
 use Rattle.hop_vault.specs.declared.kept.Kept.{Kept}
 use Rattle.hop_vault.specs.Rows.{Table, row_of, kept_end, range_of, IsChain, IsStretch}
 use Rattle.hop_machine.specs.step.Steps.{Verdicts}
+use Rattle.hop_inner.specs.declared.message.Message.{Message}
+use Rattle.hop_inner.specs.declared.message.Message.TheVariants.{Parcel as Parcels, Notice as Says}
 use Rattle.hop_inner.specs.Messages.{FitsAt, FitsNotice}
 use Rattle.hop_press.specs.declared.row.Row.{Row}
 use Rattle.hop_press.specs.declared.row.Row.TheVariants.{Range, Notice}
@@ -48,10 +50,25 @@ pub record IsWhole (table : Table) (part : Part) : Type 0 where
   pub spills : List Kept
   pub stretch : IsStretch (row_of table part.split part.attempt) part.from part.to spills
 
+-- where a row is a range, it is one of whole kept spills
+abbrev pub IsWholeRow : Table → {K : Type 0} → Row K → Type 0
+IsWholeRow table (Range part) = IsWhole table part
+IsWholeRow table (Notice i a known) = Unit {0}
+
 -- a row is of whole kept spills, or a notice whose seat is of this board and knows what became of the attempt
 abbrev pub FitsRow : Table → {K : Type 0} → (K → Verdicts) → (K → List ℕ) → List ℕ → Row K → Type 0
 FitsRow table knows board name (Range part) = IsWhole table part
 FitsRow table knows board name (Notice i a known) = FitsNotice i a (knows known) (board known) name
+
+-- so of a row that may be joined to the one before it
+abbrev pub FitsLast : Table → {K : Type 0} → (K → Verdicts) → (K → List ℕ) → List ℕ → Row K → Type 0
+FitsLast table knows board name (Range part) = AreChained table × IsWhole table part
+FitsLast table knows board name (Notice i a known) = FitsNotice i a (knows known) (board known) name
+
+-- so of a message that may become such a row
+abbrev pub FitsAsRow : Table → {K : Type 0} → (K → Verdicts) → (K → List ℕ) → List ℕ → Message K → Type 0
+FitsAsRow table knows board name (Parcels x) = AreChained table × IsWhole table x.part
+FitsAsRow table knows board name (Says i a known) = FitsNotice i a (knows known) (board known) name
 
 module _ (job : Meaning) (records : List (List ℕ)) (settings : RunSettings) (tells : Bool) (table : Table) {K : Type 0} (knows : K → Verdicts) (board : K → List ℕ) (name : List ℕ) where
   -- the ready message may be sent to reducer p, and each row can become ready

@@ -1,10 +1,17 @@
 //! Held ranges read back.
-ghost use Rattle.std.specs.Prelude.{◌≡◌, ℕ, ◌<◌, IsTrue, IsSome, IfOk, IfErr, OnOk, OnErr};
+ghost use Rattle.std.specs.Prelude.{◌≡◌, ℕ, ◌<◌, ◌∷◌, [], List, All, IsTrue, IsSome, IfOk, IfErr, OnOk};
+ghost use Rattle.std.specs.List.{flat_map};
+ghost use Rattle.hop_base.specs.declared.part.Part.{Part};
+ghost use Rattle.hop_base.specs.declared.value.Pair.{Pair};
+ghost use Rattle.hop_base.specs.Order.{IsValidPair, pair_cmp};
+ghost use Rattle.hop_base.specs.Sorted.{ord};
+ghost use Rattle.hop_laws.specs.Stands.{StandsFor};
+ghost use Rattle.hop_run.specs.Runs.{RunStands};
 ghost use Rattle.hop_ports.specs.Causes.{OnlyRead};
 ghost use Rattle.hop_shelf.specs.Names.{pairs_of, IsRun};
 ghost use Rattle.hop_inner.specs.Messages.{FitsParcel};
 ghost use Rattle.hop_press.specs.Fits.{KeepsMade, IsWhole};
-ghost use Rattle.hop_press.specs.Faults.{FlushCause, FlushAnswered};
+ghost use Rattle.hop_press.specs.Faults.{FlushCause, FlushAnswered, fault_in, pairs_in};
 
 use crate::fault::FlushFault;
 use hop_base::{FlatSheet, FlatSheets, NoMemory, Part, RunName};
@@ -48,7 +55,9 @@ pub fn fetched<N: RunName, J: Job, V: Folder>(
 }
 
 // A fetch's fault as a flush's. A range that is held is kept.
-fn fault_of(fault: FetchFault) -> FlushFault {
+fn fault_of(fault: FetchFault) -> FlushFault
+    ensures { result ≡ fault_in fault }
+{
     match fault {
         FetchFault::StoreFailed => FlushFault::SpillFailed,
         FetchFault::Damaged { at, kept, found } => FlushFault::Damaged { at, kept, found },
@@ -57,20 +66,43 @@ fn fault_of(fault: FetchFault) -> FlushFault {
     }
 }
 
-// The sheets merged and combined, as a run of the part.
-fn joined<J: Job>(alloc: Global, job: &J, part: Part, sheets: FlatSheets) -> Result<Run, NoMemory> {
+// The sheets merged and combined, as a run of the part. It stands for what the sheets together stand for.
+fn joined<J: Job>(
+    alloc: Global,
+    job: &J,
+    part: Part,
+    sheets: FlatSheets,
+) -> Result<Run, NoMemory>
+    ensures parts { IfOk result (λ run. run.parts ≡ part ∷ []) }
+    ensures valid { IfOk result (λ run. All IsValidPair run.sheet) }
+    ensures stands { (pairs_of : Part → List Pair)
+        → (All IsValidPair (pairs_in sheets) → StandsFor (J.meaning job.now).reduced (ord pair_cmp (pairs_in sheets)) (pairs_of part))
+        → IfOk result (RunStands (J.meaning job.now).reduced pairs_of) }
+{
+    let runs = runs_of(alloc, sheets)?;
+    let merged = Run::merged_pairs(alloc, &runs)?;
+    merged.known();
+    let run = of_part(alloc, merged, part)?;
+    let combined = Run::combine(alloc, job, &run)?;
+    let _known = combined.flat();
+    Ok(combined)
+}
+
+// Each sheet as a run, with no part: what they are of together is said once they are merged.
+fn runs_of(alloc: Global, sheets: FlatSheets) -> Result<Vec<Run>, NoMemory>
+    ensures { IfOk result (λ runs. flat_map (λ run. run.sheet) runs.items ≡ pairs_in sheets) }
+{
     let mut runs = Vec::new(alloc);
     for sheet in sheets.into_vec() {
         runs.push(Run::of_flat(sheet, Vec::new(alloc)))?;
     }
-    let merged = Run::merged_pairs(alloc, &runs)?;
-    let run = of_part(alloc, merged, part)?;
-    let combined = Run::combine(alloc, job, &run)?;
-    Ok(combined)
+    Ok(runs)
 }
 
 // The run of these pairs and this part.
-fn of_part(alloc: Global, flat: FlatSheet, part: Part) -> Result<Run, NoMemory> {
+fn of_part(alloc: Global, flat: FlatSheet, part: Part) -> Result<Run, NoMemory>
+    ensures { IfOk result (λ run. run ≡ record { sheet = flat; parts = part ∷ [] }) }
+{
     let mut parts = Vec::new(alloc);
     parts.push(part)?;
     Ok(Run::of_flat(flat, parts))

@@ -1,15 +1,18 @@
 //! What is held for one lane.
-ghost use Rattle.std.specs.Prelude.{◌≡◌, ℕ, ◌<◌, ◌∷◌, [], ◌↔◌, ◌++◌, map, IsTrue, IsSome, IfSome, IfOk, IfErr, OnOk, OnErr, None, All};
+ghost use Rattle.std.specs.Prelude.{◌≡◌, ℕ, ◌≢◌, ◌+◌, ◌<◌, ◌≤◌, [], ◌↔◌, ◌++◌, List, map, IsTrue, IsSome, IfSome, IfOk, IfErr, OnOk, OnErr, None, All};
+ghost use Rattle.std.specs.Option.{option_map};
+ghost use Rattle.std.specs.VecDeque.{deque_len, deque_capacity};
 ghost use Rattle.hop_ports.specs.Causes.{OnlyRead};
 ghost use Rattle.hop_shelf.specs.Names.{pairs_of, IsRun};
+ghost use Rattle.hop_machine.specs.declared.words.Message.TheVariants as machine;
 ghost use Rattle.hop_machine.specs.step.Steps.{Runs};
-ghost use Rattle.hop_machine.specs.actors.MapperTurns.{flush, offer, with_row};
+ghost use Rattle.hop_machine.specs.actors.MapperTurns.{flush, offer, with_row, joined, last_row};
 ghost use Rattle.hop_machine.specs.home.Conditions.{Safe};
 ghost use Rattle.hop_vault.specs.Rows.{Table};
 ghost use Rattle.hop_inner.specs.Setups.{parts};
 ghost use Rattle.hop_inner.specs.Messages.{said, FitsAt};
 ghost use Rattle.hop_press.specs.Held.{said_row, said_lane, lane_left, no_lane, IsReady};
-ghost use Rattle.hop_press.specs.Fits.{KeepsMade, LaneFits, FitsRow};
+ghost use Rattle.hop_press.specs.Fits.{KeepsMade, AreChained, IsWhole, IsWholeRow, LaneFits, FitsRow, FitsLast, FitsAsRow};
 ghost use Rattle.hop_press.specs.Faults.{FlushCause, FlushAnswered};
 
 use crate::fault::FlushFault;
@@ -72,6 +75,10 @@ impl<K: Knowing> Lane<K> {
         requires fits { FitsAt N.job N.records N.settings N.tells p K.knows K.board (E.deeds reach.old).ends.board msg }
         ensures runs { Runs E.exact (offer w (said msg) p (said_lane self.old)) (E.deeds reach.old) (lane_left result (said_lane self.new)) (E.deeds reach.new) }
         ensures ready { IsReady self.new }
+        ensures fits { (table : Table)
+            → LaneFits N.job N.records N.settings N.tells table K.knows K.board (E.deeds reach.old).ends.board p self.old
+            → FitsAsRow table K.knows K.board (E.deeds reach.old).ends.board msg
+            → LaneFits N.job N.records N.settings N.tells table K.knows K.board (E.deeds reach.new).ends.board p self.new }
     {
         if self.ready.is_some() {
             return self.add(row_of(msg));
@@ -87,6 +94,9 @@ impl<K: Knowing> Lane<K> {
         ensures ready { self.new.ready ≡ self.old.ready }
         ensures ok { OnOk result (map said_row self.new.rows ≡ with_row (map said_row self.old.rows) (said_row row)) }
         ensures err { OnErr result (self.new ≡ self.old) }
+        ensures fits { (table : Table) (name : List ℕ)
+            → All (FitsRow table K.knows K.board name) self.old.rows → FitsLast table K.knows K.board name row
+            → All (FitsRow table K.knows K.board name) self.new.rows }
     {
         self.rows.reserve(1)?;
         match self.rows.pop_back() {
@@ -141,7 +151,27 @@ impl<K: Knowing> Lane<K> {
         job: &J,
         vault: &mut Vault<V>,
         p: u8,
-    ) -> Result<(), FlushFault> {
+    ) -> Result<(), FlushFault>
+        requires run { IsRun N.job N.records N.settings }
+        requires job { J.meaning job.now ≡ N.job }
+        requires below { p < N.settings.reducers }
+        requires keeps { KeepsMade N.job N.records N.settings (V.seen vault.old.folder).held vault.old.rows }
+        requires tells { IsTrue N.tells → IsSome (V.seen vault.old.folder).held }
+        requires none { self.old.ready ≡ None }
+        requires whole { All (IsWholeRow vault.old.rows) self.old.rows }
+        ensures ok { OnOk result (said_lane self.new ≡ map said_row self.old.rows) }
+        ensures ready { OnOk result (IsReady self.new) }
+        ensures err { OnErr result (self.new ≡ self.old) }
+        ensures some { OnErr result (map said_row self.old.rows ≢ []) }
+        ensures fits { (name : List ℕ) → All (FitsRow vault.old.rows K.knows K.board name) self.old.rows
+            → LaneFits N.job N.records N.settings N.tells vault.old.rows K.knows K.board name p self.new }
+        ensures rows { vault.new.rows ≡ vault.old.rows }
+        ensures worker { vault.new.worker ≡ vault.old.worker }
+        ensures left { OnlyRead (V.seen vault.old.folder) (V.seen vault.new.folder) }
+        ensures no_fault { OnOk result ((V.seen vault.new.folder).gets ≡ (V.seen vault.old.folder).gets) }
+        ensures answered { IfErr result (FlushAnswered (V.seen vault.old.folder) (V.seen vault.new.folder)) }
+        ensures cause { IfErr result (FlushCause V.seen vault.old vault.new p) }
+    {
         let Some(row) = self.rows.pop_front() else {
             return Ok(());
         };
@@ -174,7 +204,8 @@ impl<K: Knowing> Lane<K> {
 
 // A message as a row: of a parcel the range alone, since the vault has its run.
 fn row_of<K: Knowing>(msg: Message<K>) -> Row<K>
-    ensures { said_row result ≡ said msg }
+    ensures said { said_row result ≡ said msg }
+    ensures fits { (table : Table) (name : List ℕ) → FitsAsRow table K.knows K.board name msg → FitsLast table K.knows K.board name result }
 {
     match msg {
         Message::Parcel(parcel) => Row::Range(parcel.part),
@@ -190,23 +221,53 @@ fn row_of<K: Knowing>(msg: Message<K>) -> Row<K>
     }
 }
 
-// The last row and one behind it, as one where they are ranges that follow each other.
-fn push_joined<K: Knowing>(rows: &mut VecDeque<Row<K>>, last: Row<K>, row: Row<K>) {
-    if let (Row::Range(before), Row::Range(after)) = (&last, &row) {
-        if follows(before, after) {
-            let both = Part {
-                to: after.to,
-                ..*before
-            };
-            rows.push_back_reserved(Row::Range(both));
-            return;
+// The last row and one behind it come last, as one row where they join.
+fn push_joined<K: Knowing>(rows: &mut VecDeque<Row<K>>, last: Row<K>, row: Row<K>)
+    requires { deque_len rows.old + 2 ≤ deque_capacity rows.old }
+    ensures rows { map said_row rows.new.items ≡ map said_row rows.old.items ++ last_row (joined (said_row last) (said_row row)) (said_row last) (said_row row) }
+    ensures fits { (table : Table) (name : List ℕ)
+        → All (FitsRow table K.knows K.board name) rows.old.items → FitsRow table K.knows K.board name last → FitsLast table K.knows K.board name row
+        → All (FitsRow table K.knows K.board name) rows.new.items }
+{
+    match joined(&last, &row) {
+        Some(both) => rows.push_back_reserved(Row::Range(both)),
+        None => {
+            rows.push_back_reserved(last);
+            rows.push_back_reserved(row);
         }
     }
-    rows.push_back_reserved(last);
-    rows.push_back_reserved(row);
 }
 
-// Whether a range goes on where the one before it ends, in the same attempt.
-fn follows(before: &Part, after: &Part) -> bool {
-    after.split == before.split && after.attempt == before.attempt && after.from == before.to
+// The range of two rows, where they are ranges that follow each other.
+fn joined<K: Knowing>(last: &Row<K>, row: &Row<K>) -> Option<Part>
+    ensures joined { joined (said_row last.now) (said_row row.now) ≡ option_map machine.Range result }
+    ensures whole { (table : Table) (name : List ℕ)
+        → FitsRow table K.knows K.board name last.now → FitsLast table K.knows K.board name row.now
+        → IfSome result (IsWhole table) }
+{
+    match last {
+        Row::Notice { .. } => None,
+        Row::Range(before) => match row {
+            Row::Notice { .. } => None,
+            Row::Range(after) => continued(before, after),
+        },
+    }
+}
+
+// A range and one that goes on where it ends, in the same attempt, as one.
+fn continued(before: &Part, after: &Part) -> Option<Part>
+    ensures joined { joined (machine.Range before.now) (machine.Range after.now) ≡ option_map machine.Range result }
+    ensures whole { (table : Table) → AreChained table → IsWhole table before.now → IsWhole table after.now → IfSome result (IsWhole table) }
+{
+    if after.split == before.split
+        && after.attempt == before.attempt
+        && after.from == before.to
+    {
+        Some(Part {
+            to: after.to,
+            ..*before
+        })
+    } else {
+        None
+    }
 }

@@ -65,7 +65,12 @@ impl<K: Knowing> Press<K> {
     pub fn is_clear(&self) -> bool
         ensures { result ≡ is_clear (said_lanes self.now) }
     {
-        self.lanes.iter().all(|lane| lane.is_clear())
+        for lane in &self.lanes {
+            if !lane.is_clear() {
+                return false;
+            }
+        }
+        true
     }
 
     /// Mapper `w` offers a parcel to reducer `p`. Where nothing is held for it, the parcel is sent, and is the ready
@@ -225,6 +230,7 @@ impl<K: Knowing> Press<K> {
             → AreChained table → IsWhole table part
             → HeldFits N.job N.records N.settings N.tells table K.knows K.board (E.deeds reach.new).ends.board self.new }
     {
+        let _lanes = &self.lanes;
         let mut p = 0;
         for run in runs.into_vec() {
             let _known = run.flat();
