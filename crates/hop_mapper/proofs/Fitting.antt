@@ -8,7 +8,8 @@ use Rattle.hop_base.specs.Meaning.{Meaning}
 use Rattle.hop_base.specs.Run.{RunSettings}
 use Rattle.hop_vault.specs.declared.kept.Kept.{Kept}
 use Rattle.hop_vault.specs.Rows.{Table, row_of, IsChain, IsStretch, AddsTo}
-use Rattle.hop_machine.specs.step.Steps.{Verdicts}
+use Rattle.hop_machine.specs.step.Steps.{Verdicts, Deeds}
+use Rattle.hop_mapper.specs.Mappers.{MapperValue, SameStore, FitsBoard}
 use Rattle.hop_press.specs.declared.row.Row.{Row}
 use Rattle.hop_press.specs.declared.row.Row.TheVariants.{Range, Notice}
 use Rattle.hop_press.specs.Held.{LaneValue, lane_at}
@@ -57,3 +58,12 @@ module _ (before after : Table) (split attempt : ℕ) (kept : Kept) (adds : Adds
     -- what is held fits still
     pub held_more : (job : Meaning) (records : List (List ℕ)) (settings : RunSettings) (tells : Bool) (lanes : List (LaneValue K)) → HeldFits job records settings tells before knows board name lanes → HeldFits job records settings tells after knows board name lanes
     held_more job records settings tells lanes h = λ p. record { ready = (h p).ready; rows = rows_more (lane_at lanes p).rows (h p).rows }
+
+-- what is held fits where it, the vault and the board are as before
+pub fits_same : (job : Meaning) (records : List (List ℕ)) (settings : RunSettings) (tells : Bool) {V K : Type 0} (knows : K → Verdicts) (board : K → List ℕ) (m n : MapperValue V K) (a b : Deeds) → SameStore m n → b.ends ≡ a.ends
+    → FitsBoard job records settings tells knows board m a → FitsBoard job records settings tells knows board n b
+fits_same job records settings tells {K = K} knows board m n a b same ends h =
+    let v = ap (λ x. x.rows) same.vault in let d = ap (λ x. x.board) ends in
+    subst (λ (t : Table). HeldFits job records settings tells t knows board b.ends.board n.held) (sym v)
+    (subst (λ (name : List ℕ). HeldFits job records settings tells m.vault.rows knows board name n.held) (sym d)
+    (subst (λ (lanes : List (LaneValue K)). HeldFits job records settings tells m.vault.rows knows board a.ends.board lanes) (sym same.held) h))

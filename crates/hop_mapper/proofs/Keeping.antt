@@ -19,6 +19,7 @@ use Rattle.hop_base.specs.Meaning.{Meaning}
 use Rattle.hop_base.specs.Run.{RunSettings}
 use Rattle.hop_base.proofs.Truth.{both_true}
 use Rattle.hop_ports.specs.Views.{FolderView, with_file}
+use Rattle.hop_spill.specs.declared.spill.Spill.{Spill}
 use Rattle.hop_spill.specs.Spelling.{IsSpill, spill_text}
 use Rattle.hop_spill.specs.SpillFiles.{name_of, sheet_made, spill_made}
 use Rattle.hop_vault.specs.declared.kept.Kept.{Kept}
@@ -149,3 +150,22 @@ module _ (job : Meaning) (records : List (List ℕ)) (settings : RunSettings) wh
           | inl e ↦ made_same old.held new.held before after h cause.1 e
           | inr e ↦ made_put old.held new.held before after next.kept h cause.1 e
         ]
+
+    -- whether the folder tells what it holds is as before
+    told_with : (held : Option Files) (name text : List ℕ) → IsSome held → IsSome (with_file held name text)
+    told_with (Some files) name text h = h
+    told_with None name text h = h
+
+    module _ (old new : FolderView) (before after : Table) (result : Result (Unit {0}) KeepFault) (spill : Spill) (value : spill ≡ spill_made job records settings.split settings.reducers part)
+        (next : IsNext records settings before part) (kept : OnOk result (IsKeptIn old new before after spill)) (cause : IfErr result (KeepCause old new before after spill)) where
+      pub keeps_made : Whole old.held before → Whole new.held after
+      keeps_made h =
+          made_after old new before after result next h (subst (λ (x : Spill). OnOk result (IsKeptIn old new before after x)) value kept) (subst (λ (x : Spill). IfErr result (KeepCause old new before after x)) value cause)
+
+      told_after : (r : Result (Unit {0}) KeepFault) → OnOk r (IsKeptIn old new before after spill) → IfErr r (KeepCause old new before after spill) → IsSome old.held → IsSome new.held
+      told_after (Ok u) k c h = subst IsSome (sym k.held) (told_with old.held _ _ h)
+      told_after (Err fault.NoMemory) k c h = subst IsSome (sym c.1) h
+      told_after (Err fault.StoreFailed) k c h = elim c.2 [ | inl e ↦ subst IsSome (sym e) h | inr e ↦ subst IsSome (sym e) (told_with old.held _ _ h) ]
+
+      pub still_told : IsSome old.held → IsSome new.held
+      still_told h = told_after result kept cause h

@@ -8,3 +8,6 @@ pub mod PartsOfTurns
 pub mod Fitting
 pub mod Offering
 pub mod SpilledLaws
+pub mod FaultLaws
+pub mod Starting
+pub mod Working

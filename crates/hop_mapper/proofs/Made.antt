@@ -8,14 +8,13 @@ use Rattle.std.proofs.lemmas.List.Elements.{All-take, All-drop}
 use Rattle.hop_base.specs.declared.part.Part.{Part}
 use Rattle.hop_base.specs.declared.value.Pair.{Pair}
 use Rattle.hop_base.specs.Meaning.{Meaning}
-use Rattle.hop_base.specs.Order.{IsSheet}
 use Rattle.hop_laws.specs.Blocking.{part_records, part_pairs}
 use Rattle.hop_laws.specs.Laws.{IsLawful}
 use Rattle.hop_laws.specs.Partition.{partition_of}
 use Rattle.hop_laws.proofs.Emitted.{valid_part}
 use Rattle.hop_spill.specs.Spelling.{IsSheetOf, AreSheetsFrom, IsSpill}
 use Rattle.hop_spill.specs.SpillFiles.{sheet_made, spill_made}
-use Rattle.hop_mapper.proofs.Sizes.{combined_few, combined_keyed, of_partition_all, emitted_few}
+use Rattle.hop_mapper.proofs.Sizes.{combined_sheet, combined_few, combined_keyed, of_partition_all, emitted_few}
 use Rattle.std.specs.List.{flat_map}
 
 made_sheets : (f : ℕ → List Pair) (p k r : ℕ) → ((q : ℕ) → p ≤ q → q < p + k → IsSheetOf q r (f q)) → AreSheetsFrom p r (map f (range_with_len p k))
@@ -42,9 +41,9 @@ module _ (meaning : Meaning) (records : List (List ℕ)) (n r : ℕ) (laws : IsL
       let c : length rs ≡ min (part.to - part.from) (length (drop (part.split * n + part.from) records)) = length-take (part.to - part.from) (drop (part.split * n + part.from) records) in
       omega arith
 
-  -- of each partition, a sheet in order is one of a spill
-  pub is_spill : (part : Part) → IsShortRange part → 1 ≤ r → r ≤ 8 → ((p : ℕ) → p < r → IsSheet (sheet_made meaning records n r part p)) → IsSpill (spill_made meaning records n r part)
-  is_spill part range some few sheets =
+  -- the spill of such a range is one
+  pub is_spill : (part : Part) → IsShortRange part → 1 ≤ r → r ≤ 8 → IsSpill (spill_made meaning records n r part)
+  is_spill part range some few =
       let len = length-map-range_with_len (sheet_made meaning records n r part) 0 r in
       record {
         split = range.split;
@@ -55,7 +54,7 @@ module _ (meaning : Meaning) (records : List (List ℕ)) (n r : ℕ) (laws : IsL
         some_reducer = omega arith;
         few_reducers = omega arith;
         sheets = subst (λ k. AreSheetsFrom 0 k (map (sheet_made meaning records n r part) (range_with_len 0 r))) (sym len) (made_sheets (sheet_made meaning records n r part) 0 r r (λ q a b. record {
-          sheet = sheets q (omega arith);
+          sheet = combined_sheet meaning.combined (part_pairs meaning records n q r part) laws.combines_well (valid_part meaning laws records short n q r part);
           few = few_pairs q part range.few;
           partition = combined_keyed (λ key. partition_of key r ≡ q) meaning.combined (part_pairs meaning records n q r part) (of_partition_all q r (flat_map meaning.emits (part_records records n part)));
         }));

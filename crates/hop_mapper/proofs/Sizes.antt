@@ -11,7 +11,8 @@ use Rattle.std.proofs.lemmas.List.Elements.{All-nil, All-cons, All-append, All-m
 use Rattle.hop_base.specs.declared.value.Val.{Val}
 use Rattle.hop_base.specs.declared.value.Pair.{Pair}
 use Rattle.hop_base.specs.Meaning.{Meaning}
-use Rattle.hop_base.specs.Order.{key_cmp, val_cmp, IsValidPair}
+use Rattle.hop_base.specs.Order.{key_cmp, val_cmp, IsKey, IsValid, IsValidPair, IsSheet}
+use Rattle.hop_laws.proofs.Combined.{combined_sorted}
 use Rattle.hop_base.specs.Sorted.{ord}
 use Rattle.hop_laws.specs.Groups.{values_of, keys_of, add_key}
 use Rattle.hop_laws.specs.Laws.{AlwaysCombinesWell, IsLawful}
@@ -156,3 +157,28 @@ emits_few meaning laws (line ∷ rs) h =
 -- of so many records, each partition has so many pairs at most
 pub emitted_few : (meaning : Meaning) → IsLawful meaning → (rs : List (List ℕ)) → All (λ line. length line ≤ 131050) rs → (p r : ℕ) → length (of_partition p r (flat_map meaning.emits rs)) ≤ 65536 * length rs
 emitted_few meaning laws rs h p r = let a = of_partition_few p r (flat_map meaning.emits rs) in let b = emits_few meaning laws rs h in omega arith
+
+-- # Within the limits, and in order
+
+valid_group : (k : List ℕ) (vs : List Val) → IsKey k → All IsValid vs → All IsValidPair (pairs_at k vs)
+valid_group k [] h v = All-nil IsValidPair
+valid_group k (v ∷ vs) h w = All-cons IsValidPair (record { key = k; val = v }) (pairs_at k vs) (record { key = h; value = All-head IsValid v vs w }) (valid_group k vs h (All-tail IsValid v vs w))
+
+valid_groups : (f : List ℕ → List Val) (ks : List (List ℕ)) → All IsKey ks → ((k : List ℕ) → list_any (bytes_eq k) ks ≡ true → All IsValid (f k)) → All IsValidPair (flat_map (λ k. pairs_at k (f k)) ks)
+valid_groups f [] h v = All-nil IsValidPair
+valid_groups f (k ∷ ks) h v =
+    All-append IsValidPair (pairs_at k (f k)) (flat_map (λ k. pairs_at k (f k)) ks)
+    (valid_group k (f k) (All-head IsKey k ks h) (v k (ap (λ b. b || list_any (bytes_eq k) ks) (itself k))))
+    (valid_groups f ks (All-tail IsKey k ks h) (λ l e. v l (ap (λ b. bytes_eq l k || b) e ∙ or_true (bytes_eq l k))))
+
+short_keys : (ps : List Pair) → All IsValidPair ps → All (λ (pair : Pair). IsKey pair.key) ps
+short_keys [] h = All-nil (λ (pair : Pair). IsKey pair.key)
+short_keys (p ∷ ps) h = All-cons (λ (pair : Pair). IsKey pair.key) p ps (All-head IsValidPair p ps h).key (short_keys ps (All-tail IsValidPair p ps h))
+
+-- a combined sheet is a sheet
+pub combined_sheet : (combine : List ℕ → List Val → List Val) (ps : List Pair) → AlwaysCombinesWell combine → All IsValidPair ps → IsSheet (combined_pairs combine ps)
+combined_sheet combine ps well valid = record {
+  sorted = combined_sorted combine ps well valid;
+  valid = valid_groups (λ k. combine k (ord val_cmp (values_of k ps))) (keys_of ps) (keyed_keys IsKey ps (short_keys ps valid))
+      (λ k e. (well k (values_of k ps) (some_values k ps (sym (has_keys k ps) ∙ e)) (valid_values k ps valid)).valid);
+}

@@ -46,10 +46,10 @@ module _ (job : Meaning) (records : List (List ℕ)) (settings : RunSettings) wh
   name_at part = name_of part.split part.attempt part.from
 
   -- a chain of made spills ends early enough, and its attempt is one of the run's
-  pub record IsBounded (i a end : ℕ) : Type 0 where
+  pub record IsBounded (i a last : ℕ) : Type 0 where
     pub split : i < 2 ^ 32
     pub attempt : a < 2 ^ 32
-    pub end : end < 2 ^ 32
+    pub end : last < 2 ^ 32
 
   row_bounded : (held : Option Files) (i a begins : ℕ) (row : List Kept) (ends : ℕ) → IsChain begins row ends → begins < 2 ^ 32 → begins < ends → All (IsMade job records settings held i a) row → IsBounded i a ends
   row_bounded held i a begins [] ends c b lt h = absurd (omega (arith, c, lt))
@@ -60,7 +60,7 @@ module _ (job : Meaning) (records : List (List ℕ)) (settings : RunSettings) wh
   row_bounded held i a begins (kept ∷ (next ∷ row)) ends c b lt h =
       let is = (All-head (IsMade job records settings held i a) kept (next ∷ row) h).is_spill in
       let u : kept.to ≤ 16777216 = is.to in
-      let v : next.from ≡ kept.to = c.2.0 in let w : next.from < next.to = c.2.1 in let x = chain_up next.to row ends c.2.2 in
+      let v : next.from ≡ kept.to = c.2.0 in let w : kept.to < next.to = c.2.1 in let x = chain_up next.to row ends c.2.2 in
       row_bounded held i a kept.to (next ∷ row) ends c.2 (omega arith) (omega arith) (All-tail (IsMade job records settings held i a) kept (next ∷ row) h)
 
   bounded : (held : Option Files) (rows : Table) → KeepsMade job records settings held rows → (i a : ℕ) → 0 < kept_end rows i a → IsBounded i a (kept_end rows i a)

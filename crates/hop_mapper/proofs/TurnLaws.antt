@@ -16,6 +16,7 @@ use Rattle.hop_machine.specs.step.Steps.{Deeds, Steps, Runs, Prog, Done, Then, a
 use Rattle.hop_machine.specs.home.Conditions.{Safe}
 use Rattle.hop_machine.specs.actors.MapperTurns.{Mapper, Lane, Lanes, each_lane, on_lanes, keeps}
 use Rattle.hop_machine.proofs.step.Programs.{Runs-and_then}
+use Rattle.hop_inner.proofs.Safety.{safe_after}
 
 -- the first of two programs is safe where both together are
 pub safe_first : {A B : Type 0} (parts : ℕ) (e : Bool) (k : Prog A) (f : A → Prog B) (a : Deeds) → Safe parts e (and_then k f) a → Safe parts e k a
@@ -73,3 +74,14 @@ keeps_after before after split attempt kept adds end e =
         ends_after before after split attempt kept adds i a
         ∙ ap (λ (b : Bool). cond b kept.to (kept_end before i a)) (λ k. eqb_sym i split k && eqb_sym a attempt k)
         ∙ ap (λ (n : ℕ). cond (eqb split i && eqb attempt a) n (kept_end before i a)) e))
+
+-- what has to be known before each lane is flushed, and after
+module _ (parts : ℕ) (e : Bool) (m : Mapper) (f : ℕ → List Message → Prog Lane) (k : Mapper → Prog (Mapper × Turn)) (a : Deeds) (safe : Safe parts e (on_lanes m f k) a) where
+  abbrev goes_on : Lanes → Prog (Mapper × Turn)
+  goes_on x = if x.went then k (record m { held = x.held }) else Done (record m { held = x.held }, Stopped)
+
+  pub lanes_safe : Safe parts e (each_lane f 0 m.held) a
+  lanes_safe = safe_first parts e (each_lane f 0 m.held) goes_on a safe
+
+  pub later_safe : (held : List (List Message)) (b : Deeds) → Runs e (each_lane f 0 m.held) a (record { went = true; held = held }) b → Safe parts e (k (record m { held = held })) b
+  later_safe held b h = safe_after parts e (each_lane f 0 m.held) goes_on a b (record { went = true; held = held }) safe h

@@ -1,9 +1,11 @@
 -- Why a mapper's turn fails.
-use Rattle.std.specs.Prelude.{ℕ}
+use Rattle.std.specs.Prelude.{ℕ, Result, Ok, Err}
 use Rattle.hop_press.specs.declared.fault.FlushFault.{FlushFault}
 use Rattle.hop_press.specs.declared.fault.FlushFault.TheVariants as flush
 use Rattle.hop_vault.specs.declared.kept.FetchFault.{FetchFault}
 use Rattle.hop_vault.specs.declared.kept.FetchFault.TheVariants as fetch
+use Rattle.hop_actors.specs.declared.turn.Turn.{Turn}
+use Rattle.hop_actors.specs.declared.turn.Turn.TheVariants as answer
 use Rattle.hop_actors.specs.declared.fault.Fault.{Fault}
 use Rattle.hop_actors.specs.declared.fault.Fault.TheVariants.{SpillFailed, SpillDamaged, SpillCollides, NoMemory}
 
@@ -21,3 +23,8 @@ fetch_fault worker fetch.StoreFailed = SpillFailed worker
 fetch_fault worker (fetch.Damaged at kept found) = SpillDamaged worker at kept found
 fetch_fault worker (fetch.Collides at place) = SpillCollides worker at place
 fetch_fault worker fetch.NoMemory = NoMemory
+
+-- what a turn answers after the lanes: it fails where memory was wanting
+abbrev pub turn_of : {A E : Type 0} → Result A E → Turn
+turn_of (Ok gone) = answer.Worked
+turn_of (Err fault) = answer.Failed NoMemory

@@ -19,6 +19,16 @@ use Rattle.hop_machine.specs.actors.MapperTurns.{Running, Work, Runs, Retries, F
 abbrev pub split_len : List (List ℕ) → RunSettings → ℕ → ℕ
 split_len records settings split = slice_index (lens_of (book_of records settings)) split
 
+-- what limits a run with a book and settings, and a split of it
+pub record IsWithinLimits (records : List (List ℕ)) (settings : RunSettings) (split : ℕ) : Type 0 where
+  pub splits : length (lens_of (book_of records settings)) ≤ 1024
+  pub len : split_len records settings split ≤ 16777216
+  pub some_spill : 1 ≤ settings.spill
+  pub few_spill : settings.spill ≤ 65535
+  pub attempts : settings.attempts ≤ 16
+  pub some_reducers : 1 ≤ settings.reducers
+  pub few_reducers : settings.reducers ≤ 8
+
 -- a running attempt is one of the run's: whole spills of it are done, and the vault has kept them
 pub record RunsHere (records : List (List ℕ)) (settings : RunSettings) (rows : Table) (run : Running) : Type 0 where
   pub split : run.split < length (lens_of (book_of records settings))

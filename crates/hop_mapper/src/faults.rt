@@ -1,8 +1,9 @@
 //! What went wrong, as a worker's fault.
 ghost use Rattle.std.specs.Prelude.{◌≡◌};
-ghost use Rattle.hop_mapper.specs.Faults.{flush_fault, fetch_fault};
+ghost use Rattle.hop_mapper.specs.Faults.{flush_fault, fetch_fault, turn_of};
 
-use hop_actors::Fault;
+use hop_actors::{Fault, Turn};
+use hop_base::NoMemory;
 use hop_press::FlushFault;
 use hop_vault::FetchFault;
 
@@ -37,5 +38,15 @@ pub(crate) fn fetch_fault(worker: u8, fault: FetchFault) -> Fault
             found,
         },
         FetchFault::Collides { at, place } => Fault::SpillCollides { worker, at, place },
+    }
+}
+
+// What a turn answers after the lanes: it fails where memory was wanting.
+pub(crate) fn turn_of(gone: Result<(), NoMemory>) -> Turn
+    ensures { result ≡ turn_of gone }
+{
+    match gone {
+        Ok(()) => Turn::Worked,
+        Err(NoMemory) => Turn::Failed(Fault::NoMemory),
     }
 }

@@ -84,7 +84,7 @@ impl<'a, N: RunName, V: Folder, J: Job, G: Gate, K: Knowing> Mapper<'a, N, V, J,
 
     /// Its vault, as its turns left it. It takes no memory.
     pub fn into_vault(self) -> Vault<V>
-        ensures { result ≡ self.vault }
+        ensures { result ≡ self.entry.vault }
     {
         let Mapper { state } = self;
         state.into_vault()

@@ -1,6 +1,5 @@
 //! The spill of some runs.
-ghost use Rattle.std.specs.Prelude.{◌≡◌, IfOk, All, map};
-ghost use Rattle.hop_base.specs.Order.{IsSheet};
+ghost use Rattle.std.specs.Prelude.{◌≡◌, IfOk, map};
 ghost use Rattle.hop_run.specs.Runs.{RunValue};
 ghost use Rattle.hop_spill.specs.Spelling.{spill_in};
 
@@ -11,8 +10,7 @@ use std::alloc::Global;
 
 // The sheets of the runs, which share their bytes.
 fn sheets_of(alloc: Global, runs: &Runs) -> Result<FlatSheets, NoMemory>
-    ensures value { IfOk result (λ sheets. sheets ≡ map (λ (run : RunValue). run.sheet) runs.now) }
-    ensures each { IfOk result (λ sheets. All IsSheet sheets) }
+    ensures { IfOk result (λ sheets. sheets ≡ map (λ (run : RunValue). run.sheet) runs.now) }
 {
     let mut sheets = Listed::new(alloc);
     for run in runs.as_slice() {
@@ -23,8 +21,7 @@ fn sheets_of(alloc: Global, runs: &Runs) -> Result<FlatSheets, NoMemory>
 
 // The spill of a range whose runs these are, one for each partition. No pair of it is copied.
 pub(crate) fn spill_of(alloc: Global, part: Part, runs: &Runs) -> Result<FlatSpill, NoMemory>
-    ensures value { IfOk result (λ spill. spill_in spill ≡ record { split = part.split; attempt = part.attempt; from = part.from; to = part.to; sheets = map (λ (run : RunValue). run.sheet) runs.now }) }
-    ensures each { IfOk result (λ spill. All IsSheet spill.sheets) }
+    ensures { IfOk result (λ spill. spill_in spill ≡ record { split = part.split; attempt = part.attempt; from = part.from; to = part.to; sheets = map (λ (run : RunValue). run.sheet) runs.now }) }
 {
     let sheets = sheets_of(alloc, runs)?;
     Ok(FlatSpill {

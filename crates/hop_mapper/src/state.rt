@@ -1,14 +1,14 @@
 //! What a map worker has, and the parts of its turn.
-ghost use Rattle.std.specs.Prelude.{◌≡◌, ℕ, ◌+◌, ◌-◌, ◌<◌, ◌≤◌, false, length, slice_index, slice_set, IfOk, IfErr, OnOk, map, slice_index_or, replicate};
+ghost use Rattle.std.specs.Prelude.{◌≡◌, ℕ, ◌+◌, ◌-◌, ◌<◌, ◌≤◌, true, false, length, slice_index, slice_set, IfOk, IfErr, OnOk, map, slice_index_or, replicate};
 ghost use Rattle.hop_machine.specs.declared.words.Who.TheVariants as actor;
-ghost use Rattle.hop_machine.specs.step.Steps.{Runs};
-ghost use Rattle.hop_machine.specs.home.Conditions.{Safe};
+ghost use Rattle.hop_machine.specs.step.Steps.{Runs, Steps, AskWinner};
+ghost use Rattle.hop_machine.specs.home.Conditions.{May, Safe};
 ghost use Rattle.hop_inner.specs.Setups.{parts};
 ghost use Rattle.hop_inner.specs.Boards.{KnowsVerdict};
 ghost use Rattle.hop_mapper.specs.Mappers.{running_of};
 ghost use Rattle.hop_mapper.specs.Programs.{settles};
 
-use crate::faults::flush_fault;
+use crate::faults::{flush_fault, turn_of};
 use crate::scripted::{fails_by, is_full};
 use crate::spilling::spill_of;
 use crate::work::{Running, Work};
@@ -20,7 +20,7 @@ use hop_laws::Job;
 use hop_machine::mapper_laws::{mapper_is_safe, mapper_says};
 use hop_machine::{Verdict, Who};
 use hop_ports::{Folder, Gate, Point};
-use hop_press::Press;
+use hop_press::{FlushFault, Press};
 use hop_records::Book;
 use hop_run::{Run, Runs};
 use hop_script::Script;
@@ -80,7 +80,7 @@ impl<'a, N: RunName, V: Folder, J: Job, G: Gate, K: Knowing> State<'a, N, V, J, 
     ghost use Rattle.hop_actors.specs.Acting.{said_turn, Maps};
     ghost use Rattle.hop_actors.specs.Counting.{StoreCause, TurnCause};
     ghost use Rattle.hop_mapper.specs.Mappers.{mapper_of, counts_of, FitsBoard, SameStore};
-    ghost use Rattle.hop_mapper.specs.Next.{IsNext};
+    ghost use Rattle.hop_mapper.specs.Next.{IsNext, IsWithinLimits, split_len};
 
     // How many splits there are.
     fn splits(&self) -> u32
@@ -98,9 +98,19 @@ impl<'a, N: RunName, V: Folder, J: Job, G: Gate, K: Knowing> State<'a, N, V, J, 
         self.book.len(split)
     }
 
+    // The limits of the run. It does nothing: proofs learn them so.
+    fn known(&self, split: u32)
+        requires { split < length (lens_of (book_of N.records N.settings)) }
+        ensures { IsWithinLimits N.records N.settings split }
+    {
+        let _splits = self.book.splits();
+        let _len = self.book.len(split);
+    }
+
     // How many records a spill has.
     fn spill_size(&self) -> u32
         ensures value { result ≡ N.settings.spill }
+        ensures some { 1 ≤ result }
         ensures few { result ≤ 65535 }
     {
         self.settings.spill
@@ -168,6 +178,14 @@ impl<'a, N: RunName, V: Folder, J: Job, G: Gate, K: Knowing> State<'a, N, V, J, 
         }
     }
 
+    // The winner of the split, if there is one.
+    fn winner_of<E: Reach<N, Seat = K>>(&self, reach: &mut E, split: u32) -> Option<u8>
+        requires { May parts (AskWinner (actor.Mapper self.now.vault.worker) split) (E.deeds reach.old) }
+        ensures { Steps E.exact (AskWinner (actor.Mapper self.now.vault.worker) split) result (E.deeds reach.old) (E.deeds reach.new) }
+    {
+        winner_on::<N, E>(reach, Who::Mapper(self.worker()), split)
+    }
+
     // Where it looks next for a split without a winner.
     fn set_place(&mut self, place: u32)
         ensures { self.new ≡ record self.old { place = place } }
@@ -195,7 +213,7 @@ impl<'a, N: RunName, V: Folder, J: Job, G: Gate, K: Knowing> State<'a, N, V, J, 
         ensures calm { has_failed (said_turn result) ≡ false }
     {
         for split in self.place..self.splits() {
-            match winner_on::<N, E>(reach, Who::Mapper(self.worker()), split) {
+            match self.winner_of(reach, split) {
                 None => {
                     self.set_place(split + 1);
                     return self.begin(reach, split);
@@ -254,10 +272,11 @@ impl<'a, N: RunName, V: Folder, J: Job, G: Gate, K: Knowing> State<'a, N, V, J, 
     // Where the next spill of an attempt ends.
     fn spill_end(&self, run: Running) -> u32
         requires split { run.split < length (lens_of (book_of N.records N.settings)) }
-        requires within { run.done ≤ 16777216 }
+        requires within { run.done ≤ split_len N.records N.settings run.split }
         ensures { result ≡ spill_end (rules_of N.records N.script N.settings) (running_of run) }
     {
-        (run.done + self.spill_size()).min(self.len_of(run.split))
+        let len = self.len_of(run.split);
+        (run.done + self.spill_size()).min(len)
     }
 
     // Where the script lets the attempt fail, if it does.
@@ -270,7 +289,7 @@ impl<'a, N: RunName, V: Folder, J: Job, G: Gate, K: Knowing> State<'a, N, V, J, 
     // Whether the attempt fails before its next spill is whole, or at the end of its split.
     fn must_fail(&self, run: Running) -> bool
         requires split { run.split < length (lens_of (book_of N.records N.settings)) }
-        requires within { run.done ≤ 16777216 }
+        requires within { run.done ≤ split_len N.records N.settings run.split }
         ensures { result ≡ must_fail (rules_of N.records N.script N.settings) (running_of run) }
     {
         let line = self.line_of(run);
@@ -295,7 +314,7 @@ impl<'a, N: RunName, V: Folder, J: Job, G: Gate, K: Knowing> State<'a, N, V, J, 
 }
 
 impl<'a, N: RunName, V: Folder, J: Job, G: Gate, K: Knowing> State<'a, N, V, J, G, K> {
-    ghost use Rattle.std.specs.Prelude.{List, Option, OnErr, ◌≢◌, ◌^◌};
+    ghost use Rattle.std.specs.Prelude.{List, Option, OnErr, ◌≢◌, ◌^◌, nat_lt};
     ghost use Rattle.std.specs.List.{range_with_len};
     ghost use Rattle.hop_base.specs.Run.{delay_of};
     ghost use Rattle.hop_run.specs.Runs.{RunStands, combined_run, empty_run};
@@ -305,14 +324,16 @@ impl<'a, N: RunName, V: Folder, J: Job, G: Gate, K: Knowing> State<'a, N, V, J, 
     ghost use Rattle.hop_vault.specs.Rows.{SameRows};
     ghost use Rattle.hop_machine.specs.declared.words.Message.TheVariants as machine_message;
     ghost use Rattle.hop_machine.specs.step.Steps.{BoardEnd};
-    ghost use Rattle.hop_machine.specs.actors.MapperTurns.{acts, commits, fails, offer, spills, runs_on, takes_turn, open_turn, mapper_turn, each_lane};
+    ghost use Rattle.hop_machine.specs.actors.MapperTurns.{acts, commits, fails, offer, spills, runs_on, takes_turn, open_turn, mapper_turn, each_lane, flush, is_ended};
     ghost use Rattle.hop_machine.specs.home.MapperHome.{has_failed};
     ghost use Rattle.hop_press.specs.Fits.{IsWhole};
     ghost use Rattle.hop_press.specs.Held.{said_lanes, lanes_left};
-    ghost use Rattle.hop_actors.specs.Acting.{said_turn, Maps, MayMap};
+    ghost use Rattle.hop_actors.specs.Acting.{said_turn, said_fault, Maps, MayMap};
+    ghost use Rattle.hop_machine.specs.declared.words.Turn.TheVariants as answers;
     ghost use Rattle.hop_actors.specs.Counting.{StoreCause, TurnCause};
     ghost use Rattle.hop_mapper.specs.Mappers.{mapper_of, work_of, counts_of, FitsBoard, SameButVault, SameButHeld};
     ghost use Rattle.hop_mapper.specs.Next.{IsNext, RunsHere, WorksHere, AddsSpill, AddsAtMost, split_len};
+    ghost use Rattle.hop_mapper.specs.Faults.{flush_fault};
 
     // What it has to do from now on.
     fn set_work(&mut self, work: Work)
@@ -385,10 +406,7 @@ impl<'a, N: RunName, V: Folder, J: Job, G: Gate, K: Knowing> State<'a, N, V, J, 
     {
         commit_or_revoke::<N, E>(reach, self.worker(), run);
         self.set_work(Work::Free);
-        match self.give_notice(reach, run) {
-            Ok(()) => Turn::Worked,
-            Err(NoMemory) => Turn::Failed(Fault::NoMemory),
-        }
+        turn_of(self.give_notice(reach, run))
     }
 
     // The combined runs of a range, one for each reducer.
@@ -408,6 +426,7 @@ impl<'a, N: RunName, V: Folder, J: Job, G: Gate, K: Knowing> State<'a, N, V, J, 
         ensures adds { OnOk result (AddsSpill N.job N.records N.settings (V.seen self.old.vault.folder).held (V.seen self.new.vault.folder).held self.old.vault.rows self.new.vault.rows part) }
         ensures rows { OnErr result (SameRows self.old.vault.rows self.new.vault.rows) }
         ensures rest { SameButVault self.old self.new }
+        ensures stops { IfErr result (λ fault. said_fault fault ≡ answers.Stopped) }
         ensures answered { OnOk result (counts_of V.seen self.new.vault ≡ counts_of V.seen self.old.vault) }
         ensures cause { IfErr result (StoreCause self.old.vault.worker (counts_of V.seen self.old.vault) (counts_of V.seen self.new.vault)) }
     {
@@ -424,11 +443,13 @@ impl<'a, N: RunName, V: Folder, J: Job, G: Gate, K: Knowing> State<'a, N, V, J, 
         ensures adds { OnOk result (AddsSpill N.job N.records N.settings (V.seen self.old.vault.folder).held (V.seen self.new.vault.folder).held self.old.vault.rows self.new.vault.rows part) }
         ensures rows { OnErr result (SameRows self.old.vault.rows self.new.vault.rows) }
         ensures rest { SameButVault self.old self.new }
+        ensures stops { IfErr result (λ fault. said_fault fault ≡ answers.Stopped) }
         ensures answered { OnOk result (counts_of V.seen self.new.vault ≡ counts_of V.seen self.old.vault) }
         ensures cause { IfErr result (StoreCause self.old.vault.worker (counts_of V.seen self.old.vault) (counts_of V.seen self.new.vault)) }
         ensures runs { IfOk result (λ runs. runs ≡ map (combined_run N.job N.records N.settings.split N.settings.reducers part) (range_with_len 0 N.settings.reducers)) }
         ensures stands { IfOk result (λ runs. (p : ℕ) → p < N.settings.reducers → RunStands N.job.reduced (pairs_of N.job N.records N.settings p) (slice_index_or runs p empty_run)) }
     {
+        self.known(part.split);
         let Ok(runs) = self.runs_of(part) else {
             return Err(Fault::NoMemory);
         };
@@ -454,15 +475,25 @@ impl<'a, N: RunName, V: Folder, J: Job, G: Gate, K: Knowing> State<'a, N, V, J, 
         ensures cause { TurnCause (Maps (mapper_of N.records N.script N.settings self.old)) (counts_of V.seen self.old.vault) (counts_of V.seen self.new.vault) result }
         ensures adds { has_failed (said_turn result) ≡ false → AddsAtMost N.job N.records N.settings (V.seen self.old.vault.folder).held (V.seen self.new.vault.folder).held self.old.vault.rows self.new.vault.rows }
     {
-        let part = run.part(self.spill_end(run));
+        self.known(run.split);
+        let end = self.spill_end(run);
+        let part = Part {
+            split: run.split,
+            attempt: run.attempt,
+            from: run.done,
+            to: end,
+        };
         match self.keep(part) {
             Ok(runs) => {
-                self.set_work(Work::Runs(run.at(part.to)));
+                self.set_work(Work::Runs(
+                    Running {
+                        split: run.split,
+                        attempt: run.attempt,
+                        done: end,
+                    },
+                ));
                 self.pass_gate(part);
-                match self.give_parts(reach, part, runs) {
-                    Ok(()) => Turn::Worked,
-                    Err(NoMemory) => Turn::Failed(Fault::NoMemory),
-                }
+                turn_of(self.give_parts(reach, part, runs))
             }
             Err(fault) => Turn::Failed(fault),
         }
@@ -520,6 +551,31 @@ impl<'a, N: RunName, V: Folder, J: Job, G: Gate, K: Knowing> State<'a, N, V, J, 
         }
     }
 
+    // What is held goes out to each lane; after a fault no further turn is taken.
+    fn flush<E: Reach<N, Seat = K>>(&mut self, reach: &mut E) -> Result<(), FlushFault>
+        requires well { self.old.failed ≡ false }
+        requires safe { Safe parts E.exact (each_lane (flush self.old.vault.worker) 0 (said_lanes self.old.held)) (E.deeds reach.old) }
+        requires fits { FitsBoard N.job N.records N.settings N.tells K.knows K.board self.old (E.deeds reach.old) }
+        ensures runs { Runs E.exact (each_lane (flush self.old.vault.worker) 0 (said_lanes self.old.held)) (E.deeds reach.old) (lanes_left result (said_lanes self.new.held)) (E.deeds reach.new) }
+        ensures rest { self.new ≡ record self.old { vault = self.new.vault; held = self.new.held; failed = self.new.failed } }
+        ensures rows { self.new.vault.rows ≡ self.old.vault.rows }
+        ensures worker { self.new.vault.worker ≡ self.old.vault.worker }
+        ensures files { (V.seen self.new.vault.folder).held ≡ (V.seen self.old.vault.folder).held }
+        ensures well { OnOk result (self.new.failed ≡ false) }
+        ensures fits { FitsBoard N.job N.records N.settings N.tells K.knows K.board self.new (E.deeds reach.new) }
+        ensures answered { OnOk result (counts_of V.seen self.new.vault ≡ counts_of V.seen self.old.vault) }
+        ensures cause { IfErr result (λ fault. StoreCause self.old.vault.worker (counts_of V.seen self.old.vault) (counts_of V.seen self.new.vault) (flush_fault self.old.vault.worker fault)) }
+    {
+        let worker = self.vault.worker();
+        match self.press.flush_all::<N, E, J, V>(reach, worker, self.job, &mut self.vault) {
+            Ok(()) => Ok(()),
+            Err(fault) => {
+                self.failed = true;
+                Err(fault)
+            }
+        }
+    }
+
     // What is held is flushed, and then it acts.
     fn take_turn<E: Reach<N, Seat = K>>(&mut self, reach: &mut E) -> Turn
         requires well { self.old.failed ≡ false }
@@ -533,13 +589,25 @@ impl<'a, N: RunName, V: Folder, J: Job, G: Gate, K: Knowing> State<'a, N, V, J, 
         ensures adds { has_failed (said_turn result) ≡ false → AddsAtMost N.job N.records N.settings (V.seen self.old.vault.folder).held (V.seen self.new.vault.folder).held self.old.vault.rows self.new.vault.rows }
     {
         let worker = self.worker();
-        match self.press.flush_all::<N, E, J, V>(reach, worker, self.job, &mut self.vault) {
+        match self.flush(reach) {
             Ok(()) => self.act(reach),
-            Err(fault) => {
-                self.failed = true;
-                Turn::Failed(flush_fault(worker, fault))
-            }
+            Err(fault) => Turn::Failed(flush_fault(worker, fault)),
         }
+    }
+
+    // One turn more was taken.
+    fn count(&mut self)
+        requires { self.old.turns < 2 ^ 56 }
+        ensures { self.new ≡ record self.old { turns = self.old.turns + 1 } }
+    {
+        self.turns += 1;
+    }
+
+    // Whether it idles still.
+    fn is_delayed(&self) -> bool
+        ensures { result ≡ nat_lt self.now.turns (delay_of N.script self.now.vault.worker) }
+    {
+        self.turns < self.delay() as u64
     }
 
     // A turn of a mapper that has not ended: the first ones do nothing, as many as the script delays it.
@@ -555,13 +623,29 @@ impl<'a, N: RunName, V: Folder, J: Job, G: Gate, K: Knowing> State<'a, N, V, J, 
         ensures cause { TurnCause (Maps (mapper_of N.records N.script N.settings self.old)) (counts_of V.seen self.old.vault) (counts_of V.seen self.new.vault) result }
         ensures adds { has_failed (said_turn result) ≡ false → AddsAtMost N.job N.records N.settings (V.seen self.old.vault.folder).held (V.seen self.new.vault.folder).held self.old.vault.rows self.new.vault.rows }
     {
-        let turns = self.turns;
-        self.turns = turns + 1;
-        if turns < self.delay() as u64 {
+        let delayed = self.is_delayed();
+        self.count();
+        if delayed {
             Turn::Idle
         } else {
             self.take_turn(reach)
         }
+    }
+
+    // Whether a turn answered that nothing is left.
+    fn has_ended(&self) -> bool
+        ensures { result ≡ self.now.ended }
+    {
+        self.ended
+    }
+
+    // Whether it has ended or failed is as its turn answered.
+    fn close(&mut self, turn: Turn)
+        requires { has_failed (said_turn turn) ≡ false → self.old.failed ≡ false }
+        ensures { self.new ≡ record self.old { ended = is_ended (said_turn turn); failed = has_failed (said_turn turn) } }
+    {
+        self.ended = matches!(turn, Turn::Ended);
+        self.failed = matches!(turn, Turn::Failed(_));
     }
 
     // How many of its first turns it idles.
@@ -584,13 +668,12 @@ impl<'a, N: RunName, V: Folder, J: Job, G: Gate, K: Knowing> State<'a, N, V, J, 
     {
         mapper_is_safe();
         mapper_says();
-        if self.ended {
-            self.turns += 1;
+        if self.has_ended() {
+            self.count();
             return Turn::Ended;
         }
         let turn = self.open_turn(reach);
-        self.ended = matches!(turn, Turn::Ended);
-        self.failed = matches!(turn, Turn::Failed(_));
+        self.close(turn);
         turn
     }
 }
@@ -654,7 +737,7 @@ impl<'a, N: RunName, V: Folder, J: Job, G: Gate, K: Knowing> State<'a, N, V, J, 
 
     // Its vault.
     pub fn into_vault(self) -> Vault<V>
-        ensures { result ≡ self.vault }
+        ensures { result ≡ self.entry.vault }
     {
         let State { vault, .. } = self;
         vault

@@ -14,9 +14,10 @@ use Rattle.hop_mapper.proofs.state.State.back_up.Given as goal
 abbrev pub invariant-loop-split : goal.invariant-loop-split
 invariant-loop-split g l =
     let E = g.E.Reach in
-    let m = mapper_of g.N.RunName.records g.N.RunName.script g.N.RunName.settings l.fn.self in
+    let m = mapper_of g.N.RunName.records g.N.RunName.script g.N.RunName.settings l.self in
+    let o = mapper_of g.N.RunName.records g.N.RunName.script g.N.RunName.settings l.fn.self in
     let n : ℕ = length (lens_of (book_of g.N.RunName.records g.N.RunName.settings)) in record {
       same : l.self ≡ l.fn.self;
       safe : Safe parts E.exact (backs_up m (n - l.split) l.split) (E.deeds l.reach);
-      completes : (x : machine.Mapper × Turn) (d : Deeds) → Runs E.exact (backs_up m (n - l.split) l.split) (E.deeds l.reach) x d → Runs E.exact (backs_up m (n - m.place) m.place) (E.deeds l.fn.reach) x d;
+      completes : (x : machine.Mapper × Turn) (d : Deeds) → Runs E.exact (backs_up m (n - l.split) l.split) (E.deeds l.reach) x d → Runs E.exact (backs_up o (n - o.place) o.place) (E.deeds l.fn.reach) x d;
     }
