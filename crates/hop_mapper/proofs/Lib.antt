@@ -11,3 +11,5 @@ pub mod SpilledLaws
 pub mod FaultLaws
 pub mod Starting
 pub mod Working
+pub mod FetchLaws
+pub mod Reading

@@ -1,6 +1,10 @@
 -- A folder holds the files of the spills that were kept, when one more is.
 use Rattle.std.proofs.Common.{◌≡◌, ◌≢◌, ◌⊎◌, ℕ, ◌+◌, ◌*◌, ◌/◌, ◌%◌, ◌<◌, ◌≤◌, ◌^◌, ◌&&◌, inl, inr, Bool, true, false, cond, eqb, List, [], ◌∷◌, ◌++◌, Option, Some, None, refl, sym, ap, subst, ◌∙◌, arith}
-use Rattle.std.specs.Prelude.{IfSome, All, min, slice_index}
+use Rattle.std.specs.Prelude.{IfSome, All, min, slice_index, slice_index_or}
+use Rattle.hop_machine.specs.declared.words.Turn.{Turn}
+use Rattle.hop_machine.specs.home.MapperHome.{has_failed}
+use Rattle.hop_mapper.specs.Mappers.{MapperValue}
+use Rattle.hop_mapper.specs.Sound.{HoldsSpills}
 use Rattle.std.specs.FinMap as files
 use Rattle.std.proofs.Math.Nat.{lt_of_mul-lt-mul_right, mod-add-div'}
 use Rattle.std.proofs.lemmas.Bool.{eqb-true, eq-eqb, cases_lt}
@@ -10,7 +14,7 @@ use Rattle.hop_base.specs.declared.part.Part.{Part}
 use Rattle.hop_base.specs.Meaning.{Meaning}
 use Rattle.hop_base.specs.Run.{RunSettings}
 use Rattle.hop_base.proofs.Truth.{both_true}
-use Rattle.hop_ports.specs.Views.{with_file}
+use Rattle.hop_ports.specs.Views.{FolderView, with_file}
 use Rattle.hop_records.specs.Records.{lens_of}
 use Rattle.hop_shelf.specs.Names.{book_of}
 use Rattle.hop_spill.specs.Spelling.{spill_text}
@@ -21,7 +25,7 @@ use Rattle.hop_vault.proofs.NameLaws.{name_tells}
 use Rattle.hop_vault.proofs.SoundLaws.{chain_up}
 use Rattle.hop_press.specs.Fits.{IsMade, KeepsMade}
 use Rattle.hop_actors.specs.Spilled.{IsKeptSpill, HoldsMade, IsSpilled}
-use Rattle.hop_mapper.specs.Next.{IsNext, AddsSpill, split_len}
+use Rattle.hop_mapper.specs.Next.{IsNext, AddsSpill, AddsAtMost, split_len}
 use Rattle.hop_mapper.proofs.Keeping.{get_other, get_itself}
 use Rattle.hop_mapper.proofs.TurnLaws.{ends_after}
 
@@ -170,3 +174,24 @@ module _ (job : Meaning) (records : List (List ℕ)) (settings : RunSettings) wh
     -- the folder is that of the start with the files of what was kept
     pub spilled_more : (start : Option Files) → Is (λ i a. kept_end before i a) start held → Is (λ i a. kept_end after i a) start now
     spilled_more start s = subst (λ (h : Option Files). Is (λ i a. kept_end after i a) start h) (sym adds.put) (spilled_at start held s)
+
+abbrev Kept_files : Meaning → List (List ℕ) → RunSettings → (ℕ → ℕ → ℕ) → Option Files → Option Files → Type 0
+Kept_files job records settings kept start folder = IsSpilled job records settings.split settings.reducers settings.spill (lens_of (book_of records settings)) kept start folder
+
+-- after a turn that did not fail the folder holds what it is to hold
+pub holds_after : (job : Meaning) (records : List (List ℕ)) (settings : RunSettings) (spills : List (Option Files)) {V K : Type 0} (seen : V → FolderView) (m n : MapperValue V K) (said : Turn) → n.failed ≡ has_failed said
+    → (has_failed said ≡ false → AddsAtMost job records settings (seen m.vault.folder).held (seen n.vault.folder).held m.vault.rows n.vault.rows) → n.vault.worker ≡ m.vault.worker → m.failed ≡ false
+    → HoldsSpills job records settings spills seen m → HoldsSpills job records settings spills seen n
+holds_after job records settings spills seen m n said failed adds worker well h f = subst (λ (w : ℕ). Kept_files job records settings (λ i a. kept_end n.vault.rows i a) (slice_index_or spills w None) (seen n.vault.folder).held) (sym worker) (by (adds (sym failed ∙ f)))
+  where
+    by : AddsAtMost job records settings (seen m.vault.folder).held (seen n.vault.folder).held m.vault.rows n.vault.rows → Kept_files job records settings (λ i a. kept_end n.vault.rows i a) (slice_index_or spills m.vault.worker None) (seen n.vault.folder).held
+    by (inl e) = subst (λ (t : Table). Kept_files job records settings (λ i a. kept_end t i a) (slice_index_or spills m.vault.worker None) (seen n.vault.folder).held) (sym e.1) (subst (λ (o : Option Files). Kept_files job records settings (λ i a. kept_end m.vault.rows i a) (slice_index_or spills m.vault.worker None) o) (sym e.0) (h well))
+    by (inr x) = spilled_more job records settings (seen m.vault.folder).held (seen n.vault.folder).held m.vault.rows n.vault.rows x.0 x.1 (slice_index_or spills m.vault.worker None) (h well)
+
+-- nor does it change where nothing is kept and nothing is put
+pub holds_still : (job : Meaning) (records : List (List ℕ)) (settings : RunSettings) (spills : List (Option Files)) {V K : Type 0} (seen : V → FolderView) (m n : MapperValue V K) → n.failed ≡ m.failed → (seen n.vault.folder).held ≡ (seen m.vault.folder).held → n.vault.rows ≡ m.vault.rows → n.vault.worker ≡ m.vault.worker
+    → HoldsSpills job records settings spills seen m → HoldsSpills job records settings spills seen n
+holds_still job records settings spills seen m n failed held rows worker h f =
+    subst (λ (w : ℕ). Kept_files job records settings (λ i a. kept_end n.vault.rows i a) (slice_index_or spills w None) (seen n.vault.folder).held) (sym worker)
+    (subst (λ (t : Table). Kept_files job records settings (λ i a. kept_end t i a) (slice_index_or spills m.vault.worker None) (seen n.vault.folder).held) (sym rows)
+    (subst (λ (o : Option Files). Kept_files job records settings (λ i a. kept_end m.vault.rows i a) (slice_index_or spills m.vault.worker None) o) (sym held) (h (sym failed ∙ f))))

@@ -19,7 +19,7 @@ use Rattle.hop_actors.specs.Spilled.{IsSpilled}
 use Rattle.hop_mapper.specs.declared.work.Work.TheVariants as work
 use Rattle.hop_mapper.specs.Mappers.{MapperValue, mapper_of}
 
-module _ {K : Type 0} where
+module _ (K : Type 0) where
   held_none : (n : ℕ) → said_lanes (replicate n (no_lane {K = K})) ≡ nothing_held n
   held_none zero = refl
   held_none (suc n) = ap (λ xs. [] ∷ xs) (held_none n)
@@ -53,7 +53,7 @@ module _ (records : List (List ℕ)) (script : ScriptLines) (settings : RunSetti
   -- it is the machine's new mapper
   pub new_is : mapper_of records script settings (record { vault = vault; held = press; turns = 0; work = work.Free; dry = false; place = 0; begun = begun; ended = false; failed = false }) ≡ new_mapper vault.worker (rules_of records script settings) settings.backup settings.reducers
   new_is =
-      let h : said_lanes press ≡ nothing_held settings.reducers = ap said_lanes held ∙ held_none settings.reducers in
+      let h : said_lanes press ≡ nothing_held settings.reducers = ap said_lanes held ∙ held_none K settings.reducers in
       let b : ◌≡◌ {A = ℕ → ℕ} (λ i. slice_index begun i) (λ i. 0) = fun_ext (λ i. ap (λ xs. slice_index xs i) counts ∙ zeros n i) in
       let k : ◌≡◌ {A = ℕ → ℕ → ℕ} (λ i a. kept_end vault.rows i a) (λ i a. 0) = fun_ext (λ i. fun_ext (λ a. ap (λ t. kept_end t i a) rows ∙ end_none i a)) in
       λ j. record (new_mapper vault.worker (rules_of records script settings) settings.backup settings.reducers) { held = h j; begun = b j; kept = k j }

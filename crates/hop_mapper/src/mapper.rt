@@ -5,8 +5,8 @@ ghost use Rattle.hop_records.specs.Records.{lens_of};
 ghost use Rattle.hop_shelf.specs.Names.{book_of, rules_of, IsRun};
 
 use crate::state::State;
-use hop_actors::Turn;
-use hop_base::{NoMemory, RunName, Settings};
+use hop_actors::{Fault, Turn};
+use hop_base::{FlatSheets, NoMemory, Part, RunName, Settings};
 use hop_inner::{Knowing, Reach};
 use hop_laws::Job;
 use hop_ports::{Folder, Gate};
@@ -78,7 +78,10 @@ impl<'a, N: RunName, V: Folder, J: Job, G: Gate, K: Knowing> Mapper<'a, N, V, J,
     ghost use Rattle.hop_machine.specs.home.MapperHome.{has_failed};
     ghost use Rattle.hop_machine.specs.step.Steps.{Runs};
     ghost use Rattle.hop_actors.specs.Acting.{said_turn, Maps, MayMap};
-    ghost use Rattle.hop_actors.specs.Counting.{TurnCause};
+    ghost use Rattle.hop_actors.specs.Counting.{StoreCause, TurnCause};
+    ghost use Rattle.hop_actors.specs.Spilled.{MayFetch, TogetherStand};
+    ghost use Rattle.hop_shelf.specs.Names.{pairs_of};
+    ghost use Rattle.std.specs.Prelude.{IfErr, OnOk};
     ghost use Rattle.hop_mapper.specs.Mappers.{mapper_of, counts_of, FitsBoard};
     ghost use Rattle.hop_mapper.specs.Sound.{HoldsSpills};
 
@@ -117,6 +120,22 @@ impl<'a, N: RunName, V: Folder, J: Job, G: Gate, K: Knowing> Mapper<'a, N, V, J,
         ensures { result ≡ (mapper_of N.records N.script N.settings self.now).begun split }
     {
         self.state.begun(split)
+    }
+
+    /// The sheets of partition `p` of whole kept spills, in order: the range begins and ends where spills do.
+    /// Where the spill folders tell, all their pairs together stand for the range. A fault comes as in a turn.
+    pub fn fetch_back(&mut self, part: Part, p: u8) -> Result<FlatSheets, Fault>
+        requires range { MayFetch (mapper_of N.records N.script N.settings self.old) part }
+        requires partition { p < N.settings.reducers }
+        ensures mapper { mapper_of N.records N.script N.settings self.new ≡ mapper_of N.records N.script N.settings self.old }
+        ensures same { self.new ≡ record self.old { vault = self.new.vault } }
+        ensures rows { self.new.vault.rows ≡ self.old.vault.rows }
+        ensures files { (V.seen self.new.vault.folder).held ≡ (V.seen self.old.vault.folder).held }
+        ensures stands { IfOk result (λ sheets. IsTrue N.tells → TogetherStand N.job.reduced sheets (pairs_of N.job N.records N.settings p part)) }
+        ensures answered { OnOk result (counts_of V.seen self.new.vault ≡ counts_of V.seen self.old.vault) }
+        ensures cause { IfErr result (StoreCause self.old.vault.worker (counts_of V.seen self.old.vault) (counts_of V.seen self.new.vault)) }
+    {
+        self.state.fetch_back(part, p)
     }
 
     /// What its folder holds, unless a turn failed. It does nothing: proofs learn it so.

@@ -1,5 +1,6 @@
 //! The spill of some runs.
-ghost use Rattle.std.specs.Prelude.{◌≡◌, IfOk, map};
+ghost use Rattle.std.specs.Prelude.{◌≡◌, IfOk, All, map};
+ghost use Rattle.hop_base.specs.Order.{IsSheet};
 ghost use Rattle.hop_run.specs.Runs.{RunValue};
 ghost use Rattle.hop_spill.specs.Spelling.{spill_in};
 
@@ -31,4 +32,13 @@ pub(crate) fn spill_of(alloc: Global, part: Part, runs: &Runs) -> Result<FlatSpi
         to: part.to,
         sheets,
     })
+}
+
+// Each sheet is in order and within the limits. It does nothing: proofs learn it so.
+pub(crate) fn all_known(sheets: &FlatSheets)
+    ensures { All IsSheet sheets.now }
+{
+    for sheet in sheets.as_slice() {
+        sheet.known();
+    }
 }

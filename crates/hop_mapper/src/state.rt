@@ -8,12 +8,12 @@ ghost use Rattle.hop_inner.specs.Boards.{KnowsVerdict};
 ghost use Rattle.hop_mapper.specs.Mappers.{running_of};
 ghost use Rattle.hop_mapper.specs.Programs.{settles};
 
-use crate::faults::{flush_fault, turn_of};
+use crate::faults::{fetch_fault, flush_fault, turn_of};
 use crate::scripted::{fails_by, is_full};
-use crate::spilling::spill_of;
+use crate::spilling::{all_known, spill_of};
 use crate::work::{Running, Work};
 use hop_actors::{Fault, Turn};
-use hop_base::{NoMemory, Part, RunName, Settings};
+use hop_base::{FlatSheets, NoMemory, Part, RunName, Settings};
 use hop_inner::steps::{commit_on, draw_on, next_split_on, revoke_on, winner_on};
 use hop_inner::{Knowing, Reach};
 use hop_laws::Job;
@@ -64,7 +64,7 @@ impl<'a, N: RunName, V: Folder, J: Job, G: Gate, K: Knowing> Model for State<'a,
 }
 
 impl<'a, N: RunName, V: Folder, J: Job, G: Gate, K: Knowing> State<'a, N, V, J, G, K> {
-    ghost use Rattle.std.specs.Prelude.{List, Option};
+    ghost use Rattle.std.specs.Prelude.{List, Option, ◌^◌};
     ghost use Rattle.std.specs.List.{range_with_len};
     ghost use Rattle.hop_base.specs.Run.{fails_at};
     ghost use Rattle.hop_records.specs.Records.{lens_of};
@@ -180,17 +180,24 @@ impl<'a, N: RunName, V: Folder, J: Job, G: Gate, K: Knowing> State<'a, N, V, J, 
 
     // The winner of the split, if there is one.
     fn winner_of<E: Reach<N, Seat = K>>(&self, reach: &mut E, split: u32) -> Option<u8>
-        requires { May parts (AskWinner (actor.Mapper self.now.vault.worker) split) (E.deeds reach.old) }
+        requires split { split < length (lens_of (book_of N.records N.settings)) }
+        requires may { May parts (AskWinner (actor.Mapper self.now.vault.worker) split) (E.deeds reach.old) }
         ensures { Steps E.exact (AskWinner (actor.Mapper self.now.vault.worker) split) result (E.deeds reach.old) (E.deeds reach.new) }
     {
         winner_on::<N, E>(reach, Who::Mapper(self.worker()), split)
     }
 
-    // Where it looks next for a split without a winner.
-    fn set_place(&mut self, place: u32)
-        ensures { self.new ≡ record self.old { place = place } }
+    // A split without a winner gets an attempt more, and the next time it looks behind it.
+    fn begin_backup<E: Reach<N, Seat = K>>(&mut self, reach: &mut E, split: u32) -> Turn
+        requires split { split < length (lens_of (book_of N.records N.settings)) }
+        requires safe { Safe parts E.exact (begins (record (mapper_of N.records N.script N.settings self.old) { place = split + 1 }) split) (E.deeds reach.old) }
+        ensures runs { Runs E.exact (begins (record (mapper_of N.records N.script N.settings self.old) { place = split + 1 }) split) (E.deeds reach.old) (mapper_of N.records N.script N.settings self.new, said_turn result) (E.deeds reach.new) }
+        ensures same { SameStore self.old self.new }
+        ensures calm { has_failed (said_turn result) ≡ false }
     {
-        self.place = place;
+        self.known(split);
+        self.place = split + 1;
+        self.begin(reach, split)
     }
 
     // Nothing is left to begin: it has ended, but for what is held.
@@ -214,10 +221,7 @@ impl<'a, N: RunName, V: Folder, J: Job, G: Gate, K: Knowing> State<'a, N, V, J, 
     {
         for split in self.place..self.splits() {
             match self.winner_of(reach, split) {
-                None => {
-                    self.set_place(split + 1);
-                    return self.begin(reach, split);
-                }
+                None => return self.begin_backup(reach, split),
                 Some(_) => {}
             }
         }
@@ -298,6 +302,7 @@ impl<'a, N: RunName, V: Folder, J: Job, G: Gate, K: Knowing> State<'a, N, V, J, 
 
     // The split is spent where all its attempts are revoked and it has no winner.
     fn unless_spent<E: Reach<N, Seat = K>>(&self, reach: &mut E, split: u32, mask: u16) -> Turn
+        requires bits { mask < 2 ^ 16 }
         requires safe { Safe parts E.exact (unless_spent (mapper_of N.records N.script N.settings self.now) split mask) (E.deeds reach.old) }
         ensures runs { Runs E.exact (unless_spent (mapper_of N.records N.script N.settings self.now) split mask) (E.deeds reach.old) (mapper_of N.records N.script N.settings self.now, said_turn result) (E.deeds reach.new) }
         ensures ends { (E.deeds reach.new).ends ≡ (E.deeds reach.old).ends }
@@ -474,6 +479,7 @@ impl<'a, N: RunName, V: Folder, J: Job, G: Gate, K: Knowing> State<'a, N, V, J, 
         ensures fits { FitsBoard N.job N.records N.settings N.tells K.knows K.board self.new (E.deeds reach.new) }
         ensures cause { TurnCause (Maps (mapper_of N.records N.script N.settings self.old)) (counts_of V.seen self.old.vault) (counts_of V.seen self.new.vault) result }
         ensures adds { has_failed (said_turn result) ≡ false → AddsAtMost N.job N.records N.settings (V.seen self.old.vault.folder).held (V.seen self.new.vault.folder).held self.old.vault.rows self.new.vault.rows }
+        ensures worker { self.new.vault.worker ≡ self.old.vault.worker }
     {
         self.known(run.split);
         let end = self.spill_end(run);
@@ -522,6 +528,7 @@ impl<'a, N: RunName, V: Folder, J: Job, G: Gate, K: Knowing> State<'a, N, V, J, 
         ensures fits { FitsBoard N.job N.records N.settings N.tells K.knows K.board self.new (E.deeds reach.new) }
         ensures cause { TurnCause (Maps (mapper_of N.records N.script N.settings self.old)) (counts_of V.seen self.old.vault) (counts_of V.seen self.new.vault) result }
         ensures adds { has_failed (said_turn result) ≡ false → AddsAtMost N.job N.records N.settings (V.seen self.old.vault.folder).held (V.seen self.new.vault.folder).held self.old.vault.rows self.new.vault.rows }
+        ensures worker { self.new.vault.worker ≡ self.old.vault.worker }
     {
         if self.must_fail(run) {
             self.fail(reach, run)
@@ -543,6 +550,7 @@ impl<'a, N: RunName, V: Folder, J: Job, G: Gate, K: Knowing> State<'a, N, V, J, 
         ensures fits { FitsBoard N.job N.records N.settings N.tells K.knows K.board self.new (E.deeds reach.new) }
         ensures cause { TurnCause (Maps (mapper_of N.records N.script N.settings self.old)) (counts_of V.seen self.old.vault) (counts_of V.seen self.new.vault) result }
         ensures adds { has_failed (said_turn result) ≡ false → AddsAtMost N.job N.records N.settings (V.seen self.old.vault.folder).held (V.seen self.new.vault.folder).held self.old.vault.rows self.new.vault.rows }
+        ensures worker { self.new.vault.worker ≡ self.old.vault.worker }
     {
         match self.work {
             Work::Runs(run) => self.run_on(reach, run),
@@ -587,6 +595,7 @@ impl<'a, N: RunName, V: Folder, J: Job, G: Gate, K: Knowing> State<'a, N, V, J, 
         ensures fits { FitsBoard N.job N.records N.settings N.tells K.knows K.board self.new (E.deeds reach.new) }
         ensures cause { TurnCause (Maps (mapper_of N.records N.script N.settings self.old)) (counts_of V.seen self.old.vault) (counts_of V.seen self.new.vault) result }
         ensures adds { has_failed (said_turn result) ≡ false → AddsAtMost N.job N.records N.settings (V.seen self.old.vault.folder).held (V.seen self.new.vault.folder).held self.old.vault.rows self.new.vault.rows }
+        ensures worker { self.new.vault.worker ≡ self.old.vault.worker }
     {
         let worker = self.worker();
         match self.flush(reach) {
@@ -622,6 +631,7 @@ impl<'a, N: RunName, V: Folder, J: Job, G: Gate, K: Knowing> State<'a, N, V, J, 
         ensures fits { FitsBoard N.job N.records N.settings N.tells K.knows K.board self.new (E.deeds reach.new) }
         ensures cause { TurnCause (Maps (mapper_of N.records N.script N.settings self.old)) (counts_of V.seen self.old.vault) (counts_of V.seen self.new.vault) result }
         ensures adds { has_failed (said_turn result) ≡ false → AddsAtMost N.job N.records N.settings (V.seen self.old.vault.folder).held (V.seen self.new.vault.folder).held self.old.vault.rows self.new.vault.rows }
+        ensures worker { self.new.vault.worker ≡ self.old.vault.worker }
     {
         let delayed = self.is_delayed();
         self.count();
@@ -665,6 +675,7 @@ impl<'a, N: RunName, V: Folder, J: Job, G: Gate, K: Knowing> State<'a, N, V, J, 
         ensures fits { FitsBoard N.job N.records N.settings N.tells K.knows K.board self.new (E.deeds reach.new) }
         ensures cause { TurnCause (Maps (mapper_of N.records N.script N.settings self.old)) (counts_of V.seen self.old.vault) (counts_of V.seen self.new.vault) result }
         ensures adds { has_failed (said_turn result) ≡ false → AddsAtMost N.job N.records N.settings (V.seen self.old.vault.folder).held (V.seen self.new.vault.folder).held self.old.vault.rows self.new.vault.rows }
+        ensures worker { self.new.vault.worker ≡ self.old.vault.worker }
     {
         mapper_is_safe();
         mapper_says();
@@ -733,7 +744,11 @@ impl<'a, N: RunName, V: Folder + Drop, J: Job, G: Gate, K: Knowing> State<'a, N,
 }
 
 impl<'a, N: RunName, V: Folder, J: Job, G: Gate, K: Knowing> State<'a, N, V, J, G, K> {
-    ghost use Rattle.hop_mapper.specs.Mappers.{mapper_of};
+    ghost use Rattle.std.specs.Prelude.{IsTrue};
+    ghost use Rattle.hop_shelf.specs.Names.{pairs_of};
+    ghost use Rattle.hop_actors.specs.Counting.{StoreCause};
+    ghost use Rattle.hop_actors.specs.Spilled.{MayFetch, TogetherStand};
+    ghost use Rattle.hop_mapper.specs.Mappers.{mapper_of, counts_of};
 
     // Its vault.
     pub fn into_vault(self) -> Vault<V>
@@ -748,6 +763,27 @@ impl<'a, N: RunName, V: Folder, J: Job, G: Gate, K: Knowing> State<'a, N, V, J, 
         ensures { result ≡ (mapper_of N.records N.script N.settings self.now).kept split attempt }
     {
         self.vault.kept(split, attempt)
+    }
+
+    // The sheets of partition p of whole kept spills.
+    pub fn fetch_back(&mut self, part: Part, p: u8) -> Result<FlatSheets, Fault>
+        requires range { MayFetch (mapper_of N.records N.script N.settings self.old) part }
+        requires partition { p < N.settings.reducers }
+        ensures rest { self.new ≡ record self.old { vault = self.new.vault } }
+        ensures rows { self.new.vault.rows ≡ self.old.vault.rows }
+        ensures worker { self.new.vault.worker ≡ self.old.vault.worker }
+        ensures files { (V.seen self.new.vault.folder).held ≡ (V.seen self.old.vault.folder).held }
+        ensures stands { IfOk result (λ sheets. IsTrue N.tells → TogetherStand N.job.reduced sheets (pairs_of N.job N.records N.settings p part)) }
+        ensures answered { OnOk result (counts_of V.seen self.new.vault ≡ counts_of V.seen self.old.vault) }
+        ensures cause { IfErr result (StoreCause self.old.vault.worker (counts_of V.seen self.old.vault) (counts_of V.seen self.new.vault)) }
+    {
+        let worker = self.vault.worker();
+        let sheets = match self.vault.fetch_flat(part, p) {
+            Ok(sheets) => sheets,
+            Err(fault) => return Err(fetch_fault(worker, fault)),
+        };
+        all_known(&sheets);
+        Ok(sheets)
     }
 
     // One more than the greatest attempt of the split that it began.

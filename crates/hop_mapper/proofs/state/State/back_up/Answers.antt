@@ -11,8 +11,8 @@ use Rattle.hop_mapper.specs.Mappers.{MapperValue, mapper_of}
 use Rattle.hop_mapper.proofs.Begun.{may_ask, found_safe, found_runs, next_safe, next_runs}
 use Rattle.hop_mapper.proofs.state.State.back_up.Goals as goal
 
-pub winner_of-requires : goal.winner_of-requires
-winner_of-requires g c =
+pub winner_of-requires-clause-may : goal.winner_of-requires-clause-may
+winner_of-requires-clause-may g c =
     let R = g.N.RunName in let e = g.E.Reach.exact in let m = mapper_of R.records R.script R.settings c.loop-split.self in
     let n : ℕ = length (lens_of (book_of R.records R.settings)) in
     let k = c.splits-split-end.ensures in let t = c.loop-split-test.true in
@@ -20,16 +20,14 @@ winner_of-requires g c =
     let i = c.loop-split.split in let a = g.E.Reach.deeds c.loop-split.reach in
     may_ask parts e m n i h a c.loop-split.invariant.safe
 
-pub begin-requires : goal.begin-requires
-begin-requires g c =
+pub begin_backup-requires-clause-safe : goal.begin_backup-requires-clause-safe
+begin_backup-requires-clause-safe g c =
     let R = g.N.RunName in let e = g.E.Reach.exact in let m = mapper_of R.records R.script R.settings c.loop-split.self in
     let n : ℕ = length (lens_of (book_of R.records R.settings)) in
     let k = c.splits-split-end.ensures in let t = c.loop-split-test.true in
     let h : c.loop-split.split < n = omega arith in
     let i = c.loop-split.split in let a = g.E.Reach.deeds c.loop-split.reach in
-    let b = g.E.Reach.deeds c.winner_of.new.reach in record {
-      safe = subst (λ (x : MapperValue g.row.V.Denot g.row.K.Denot). Safe parts e (begins (mapper_of R.records R.script R.settings x) i) b) (sym c.set_place.ensures) (found_safe parts e m n i h a c.winner_of.result b c.winner_of.ensures c.in-None.is c.loop-split.invariant.safe);
-    }
+    found_safe parts e m n i h a c.winner_of.result (g.E.Reach.deeds c.winner_of.new.reach) c.winner_of.ensures c.in-None.is c.loop-split.invariant.safe
 
 pub returns-in-None-clause-runs : goal.returns-in-None-clause-runs
 returns-in-None-clause-runs g c =
@@ -39,9 +37,8 @@ returns-in-None-clause-runs g c =
     let h : c.loop-split.split < n = omega arith in
     let i = c.loop-split.split in let a = g.E.Reach.deeds c.loop-split.reach in
     let b = g.E.Reach.deeds c.winner_of.new.reach in
-    let x : Mapper × Turn = (mapper_of R.records R.script R.settings c.begin.new.self, said_turn c.begin.result) in let d = g.E.Reach.deeds c.begin.new.reach in
-    let ran = subst (λ (y : MapperValue g.row.V.Denot g.row.K.Denot). Runs e (begins (mapper_of R.records R.script R.settings y) i) b x d) c.set_place.ensures c.begin.ensures.runs in
-    c.loop-split.invariant.completes x d (found_runs parts e m n i h a c.winner_of.result b c.winner_of.ensures c.in-None.is x d ran)
+    let x : Mapper × Turn = (mapper_of R.records R.script R.settings c.begin_backup.new.self, said_turn c.begin_backup.result) in let d = g.E.Reach.deeds c.begin_backup.new.reach in
+    c.loop-split.invariant.completes x d (found_runs parts e m n i h a c.winner_of.result b c.winner_of.ensures c.in-None.is x d c.begin_backup.ensures.runs)
 
 pub loop-split-preserved : goal.loop-split-preserved
 loop-split-preserved g c =

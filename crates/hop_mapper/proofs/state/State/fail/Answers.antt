@@ -14,12 +14,12 @@ give_notice-requires-clause-safe g c =
     let R = g.N.RunName in
     fail_safe R.records R.script R.settings g.E.Reach.exact c.args.self.now c.set_work.new.self c.args.run c.worker.result c.revoke_on-mask.result c.worker.ensures c.set_work.ensures (g.E.Reach.deeds c.args.reach.now) (g.E.Reach.deeds c.revoke_on-mask.new.reach) c.revoke_on-mask.ensures parts c.requires.safe
 
-pub unless_spent-requires : goal.unless_spent-requires
-unless_spent-requires g c =
+pub unless_spent-requires-clause-safe : goal.unless_spent-requires-clause-safe
+unless_spent-requires-clause-safe g c =
     let R = g.N.RunName in let a = g.E.Reach.deeds c.args.reach.now in let mid = g.E.Reach.deeds c.revoke_on-mask.new.reach in let b = g.E.Reach.deeds c.give_notice.new.reach in
     let m1 = c.set_work.new.self in let m2 = c.give_notice.new.self in
     let h = subst (λ r. Runs g.E.Reach.exact (each_lane (offer m1.vault.worker (Notice c.args.run.split c.args.run.attempt)) 0 (said_lanes m1.held)) mid (lanes_left r (said_lanes m2.held)) b) c.in-Ok.is c.give_notice.ensures.runs in
-    record { safe = spent_safe R.records R.script R.settings g.E.Reach.exact c.args.self.now m1 c.args.run c.worker.result c.revoke_on-mask.result c.worker.ensures c.set_work.ensures a mid c.revoke_on-mask.ensures m2 c.give_notice.ensures.same.rest b parts c.requires.safe h }
+    spent_safe R.records R.script R.settings g.E.Reach.exact c.args.self.now m1 c.args.run c.worker.result c.revoke_on-mask.result c.worker.ensures c.set_work.ensures a mid c.revoke_on-mask.ensures m2 c.give_notice.ensures.same.rest b parts c.requires.safe h
 
 pub returns-in-Ok-clause-runs : goal.returns-in-Ok-clause-runs
 returns-in-Ok-clause-runs g c =
