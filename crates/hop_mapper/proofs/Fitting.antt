@@ -38,7 +38,7 @@ module _ (before after : Table) (split attempt : ℕ) (kept : Kept) (adds : Adds
   whole_now part i a f t some =
       let here : (eqb part.split split && eqb part.attempt attempt) ≡ true = ap (λ (b : Bool). b && eqb part.attempt attempt) (eq-eqb part.split split i) ∙ eq-eqb part.attempt attempt a in
       let row : row_of after part.split part.attempt ≡ row_of before part.split part.attempt ++ kept ∷ [] =
-          adds part.split part.attempt ∙ ap (λ (b : Bool). cond b (row_of before part.split part.attempt ++ kept ∷ []) (row_of before part.split part.attempt)) here in
+      adds part.split part.attempt ∙ ap (λ (b : Bool). cond b (row_of before part.split part.attempt ++ kept ∷ []) (row_of before part.split part.attempt)) here in
       let some_kept : part.from < kept.to = subst (λ (y : ℕ). part.from < y) (sym t) some in
       record {
         spills = kept ∷ [];

@@ -136,8 +136,8 @@ module _ (job : Meaning) (records : List (List ℕ)) (settings : RunSettings) wh
           chain = sound.chain;
           made = λ i a. subst (λ (row : List Kept). All (Made new.held i a) row) (sym (k.rows i a)) (subst (λ (x : Option Files). All (Made x i a) (cond (eqb i part.split && eqb a part.attempt) (row_of before i a ++ k.kept ∷ []) (row_of before i a))) (sym k.held)
               (rows_now put i a (row_of before i a) k.kept (eqb i part.split && eqb a part.attempt)
-                  (λ t. let both = both_true (eqb i part.split) (eqb a part.attempt) t in (eqb-true i part.split both.0, eqb-true a part.attempt both.1))
-                  (rows_others old.held before next.kept h i a) (made_now old.held k.kept k.kept_is next.to)));
+              (λ t. let both = both_true (eqb i part.split) (eqb a part.attempt) t in (eqb-true i part.split both.0, eqb-true a part.attempt both.1))
+              (rows_others old.held before next.kept h i a) (made_now old.held k.kept k.kept_is next.to)));
         }
 
     -- after it was to be kept
@@ -165,7 +165,7 @@ module _ (job : Meaning) (records : List (List ℕ)) (settings : RunSettings) wh
       told_after : (r : Result (Unit {0}) KeepFault) → OnOk r (IsKeptIn old new before after spill) → IfErr r (KeepCause old new before after spill) → IsSome old.held → IsSome new.held
       told_after (Ok u) k c h = subst IsSome (sym k.held) (told_with old.held _ _ h)
       told_after (Err fault.NoMemory) k c h = subst IsSome (sym c.1) h
-      told_after (Err fault.StoreFailed) k c h = elim c.2 [ | inl e ↦ subst IsSome (sym e) h | inr e ↦ subst IsSome (sym e) (told_with old.held _ _ h) ]
+      told_after (Err fault.StoreFailed) k c h = elim c.2 [ inl e ↦ subst IsSome (sym e) h | inr e ↦ subst IsSome (sym e) (told_with old.held _ _ h) ]
 
       pub still_told : IsSome old.held → IsSome new.held
       still_told h = told_after result kept cause h

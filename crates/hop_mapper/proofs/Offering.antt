@@ -27,7 +27,7 @@ module _ (job : Meaning) (records : List (List ℕ)) (settings : RunSettings) (p
   runs_own some p below =
       let n = runs_count in
       let at : slice_index_or runs p empty_run ≡ combined_run job records settings.split settings.reducers part p =
-          ap (λ (xs : List RunValue). slice_index_or xs p empty_run) made ∙ get_or-map-range_with_len (combined_run job records settings.split settings.reducers part) 0 settings.reducers p p empty_run (omega arith) (omega arith) in
+      ap (λ (xs : List RunValue). slice_index_or xs p empty_run) made ∙ get_or-map-range_with_len (combined_run job records settings.split settings.reducers part) 0 settings.reducers p p empty_run (omega arith) (omega arith) in
       subst (λ (run : RunValue). IsParcel part run) (sym at) (record {
         chain = (refl, some, refl);
         own = All-cons (λ (q : Part). (q.split ≡ part.split) × (q.attempt ≡ part.attempt)) part [] (refl, refl) (All-nil (λ (q : Part). (q.split ≡ part.split) × (q.attempt ≡ part.attempt)));

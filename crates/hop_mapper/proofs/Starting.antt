@@ -13,11 +13,12 @@ use Rattle.hop_vault.specs.Rows.{Table, row_of, kept_end}
 use Rattle.hop_vault.specs.Vaults.{VaultValue}
 use Rattle.hop_machine.specs.declared.words.Message.{Message}
 use Rattle.hop_machine.specs.home.Starts.{new_mapper, nothing_held}
-use Rattle.hop_press.specs.Fits.{IsMade, KeepsMade}
+use Rattle.hop_machine.specs.step.Steps.{Verdicts, Deeds}
+use Rattle.hop_press.specs.Fits.{IsMade, KeepsMade, FitsRow, LaneFits}
 use Rattle.hop_press.specs.Held.{LaneValue, no_lane, lane_at, said_lanes, AreReady}
 use Rattle.hop_actors.specs.Spilled.{IsSpilled}
 use Rattle.hop_mapper.specs.declared.work.Work.TheVariants as work
-use Rattle.hop_mapper.specs.Mappers.{MapperValue, mapper_of}
+use Rattle.hop_mapper.specs.Mappers.{MapperValue, mapper_of, FitsBoard}
 
 module _ (K : Type 0) where
   held_none : (n : ℕ) → said_lanes (replicate n (no_lane {K = K})) ≡ nothing_held n
@@ -72,7 +73,17 @@ module _ (job : Meaning) (records : List (List ℕ)) (settings : RunSettings) wh
   -- and no file was put
   pub spilled_none : (held start : Option Files) (rows : Table) → rows ≡ [] → IfSome held (λ files. start ≡ Some files) → IsSpilled job records settings.split settings.reducers settings.spill (lens_of (book_of records settings)) (λ i a. kept_end rows i a) start held
   spilled_none None start rows is h = h
-  spilled_none (Some files) start rows is h = (files, h, record {
-    made = λ q k. let z : kept_end rows q.split q.attempt ≡ 0 = ap (λ t. kept_end t q.split q.attempt) is ∙ end_none q.split q.attempt in let w : q.to ≤ kept_end rows q.split q.attempt = k.within in let s : q.from < q.to = k.some in absurd (omega arith);
-    others = λ name n. refl;
-  })
+  spilled_none (Some files) start rows is h = (
+    files,
+    h,
+    record {
+      made = λ q k. let z : kept_end rows q.split q.attempt ≡ 0 = ap (λ t. kept_end t q.split q.attempt) is ∙ end_none q.split q.attempt in let w : q.to ≤ kept_end rows q.split q.attempt = k.within in let s : q.from < q.to = k.some in absurd (omega arith);
+      others = λ name n. refl;
+    },
+  )
+
+-- what holds nothing fits any board
+pub fits_none : (job : Meaning) (records : List (List ℕ)) (settings : RunSettings) (tells : Bool) {V K : Type 0} (knows : K → Verdicts) (board : K → List ℕ) (m : MapperValue V K) (n : ℕ) (d : Deeds) → m.held ≡ replicate n no_lane → FitsBoard job records settings tells knows board m d
+fits_none job records settings tells {K = K} knows board m n d is = λ p.
+    subst (λ (lane : LaneValue K). LaneFits job records settings tells m.vault.rows knows board d.ends.board p lane) (sym (ap (λ xs. lane_at xs p) is ∙ lane_none K n p))
+    (record { ready = tt; rows = All-nil (FitsRow m.vault.rows knows board d.ends.board) })

@@ -71,9 +71,9 @@ eqb_sym a b = by (eqb a b) (eqb b a) refl refl
 pub keeps_after : (before after : Table) (split attempt : ℕ) (kept : Kept) → AddsTo before after split attempt kept → (end : ℕ) → kept.to ≡ end → ◌≡◌ {A = ℕ → ℕ → ℕ} (λ i a. kept_end after i a) (keeps (λ i a. kept_end before i a) split attempt end)
 keeps_after before after split attempt kept adds end e =
     fun_ext (λ i. fun_ext (λ a.
-        ends_after before after split attempt kept adds i a
-        ∙ ap (λ (b : Bool). cond b kept.to (kept_end before i a)) (λ k. eqb_sym i split k && eqb_sym a attempt k)
-        ∙ ap (λ (n : ℕ). cond (eqb split i && eqb attempt a) n (kept_end before i a)) e))
+    ends_after before after split attempt kept adds i a
+    ∙ ap (λ (b : Bool). cond b kept.to (kept_end before i a)) (λ k. eqb_sym i split k && eqb_sym a attempt k)
+    ∙ ap (λ (n : ℕ). cond (eqb split i && eqb attempt a) n (kept_end before i a)) e))
 
 -- what has to be known before each lane is flushed, and after
 module _ (parts : ℕ) (e : Bool) (m : Mapper) (f : ℕ → List Message → Prog Lane) (k : Mapper → Prog (Mapper × Turn)) (a : Deeds) (safe : Safe parts e (on_lanes m f k) a) where

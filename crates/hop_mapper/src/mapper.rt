@@ -38,8 +38,9 @@ impl<'a, N: RunName, V: Folder, J: Job, G: Gate, K: Knowing> Model for Mapper<'a
 
 impl<'a, N: RunName, V: Folder + Drop, J: Job, G: Gate, K: Knowing> Mapper<'a, N, V, J, G, K> {
     ghost use Rattle.hop_machine.specs.home.Starts.{new_mapper};
+    ghost use Rattle.hop_machine.specs.step.Steps.{Deeds};
     ghost use Rattle.hop_press.specs.Held.{no_lane};
-    ghost use Rattle.hop_mapper.specs.Mappers.{mapper_of};
+    ghost use Rattle.hop_mapper.specs.Mappers.{mapper_of, FitsBoard};
 
     /// A mapper without an attempt, the worker of its vault. The vault has kept nothing, and where its folder
     /// tells, it holds what the name of the run says that the folders held at the start. The press holds
@@ -66,6 +67,7 @@ impl<'a, N: RunName, V: Folder + Drop, J: Job, G: Gate, K: Knowing> Mapper<'a, N
         ensures made { IfOk result (λ m. mapper_of N.records N.script N.settings m ≡ new_mapper vault.worker (rules_of N.records N.script N.settings) N.settings.backup N.settings.reducers) }
         ensures vault { IfOk result (λ m. m.vault ≡ vault) }
         ensures held { IfOk result (λ m. m.held ≡ press) }
+        ensures fits { IfOk result (λ m. (d : Deeds) → FitsBoard N.job N.records N.settings N.tells K.knows K.board m d) }
         ensures well { IfOk result (λ m. m.failed ≡ false) }
     {
         let state = State::new(alloc, vault, press, book, job, script, gate, settings)?;

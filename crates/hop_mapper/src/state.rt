@@ -149,13 +149,11 @@ impl<'a, N: RunName, V: Folder, J: Job, G: Gate, K: Knowing> State<'a, N, V, J, 
         if number < self.limit() as u64 {
             let attempt = number as u8;
             note_begun(&mut self.begun, split, attempt);
-            self.work = Work::Runs(
-                Running {
-                    split,
-                    attempt,
-                    done: 0,
-                },
-            );
+            self.work = Work::Runs(Running {
+                split,
+                attempt,
+                done: 0,
+            });
         } else {
             self.work = Work::Free;
         }
@@ -348,7 +346,11 @@ impl<'a, N: RunName, V: Folder, J: Job, G: Gate, K: Knowing> State<'a, N, V, J, 
     }
 
     // Each lane is offered the notice of the attempt.
-    fn give_notice<E: Reach<N, Seat = K>>(&mut self, reach: &mut E, run: Running) -> Result<(), NoMemory>
+    fn give_notice<E: Reach<N, Seat = K>>(
+        &mut self,
+        reach: &mut E,
+        run: Running,
+    ) -> Result<(), NoMemory>
         requires well { self.old.failed ≡ false }
         requires end { (E.deeds reach.old).ends.has (BoardEnd (actor.Mapper self.old.vault.worker)) ≡ true }
         requires known { KnowsVerdict ((E.deeds reach.old).told.knows (actor.Mapper self.old.vault.worker)) run.split run.attempt }
@@ -359,11 +361,17 @@ impl<'a, N: RunName, V: Folder, J: Job, G: Gate, K: Knowing> State<'a, N, V, J, 
         ensures fits { FitsBoard N.job N.records N.settings N.tells K.knows K.board self.new (E.deeds reach.new) }
     {
         let worker = self.vault.worker();
-        self.press.notice_all::<N, E>(reach, worker, run.split, run.attempt)
+        self.press
+            .notice_all::<N, E>(reach, worker, run.split, run.attempt)
     }
 
     // Each lane is offered its part of a kept spill.
-    fn give_parts<E: Reach<N, Seat = K>>(&mut self, reach: &mut E, part: Part, runs: Runs) -> Result<(), NoMemory>
+    fn give_parts<E: Reach<N, Seat = K>>(
+        &mut self,
+        reach: &mut E,
+        part: Part,
+        runs: Runs,
+    ) -> Result<(), NoMemory>
         requires well { self.old.failed ≡ false }
         requires whole { IsWhole self.old.vault.rows part }
         requires runs { runs ≡ map (combined_run N.job N.records N.settings.split N.settings.reducers part) (range_with_len 0 N.settings.reducers) }
@@ -420,7 +428,13 @@ impl<'a, N: RunName, V: Folder, J: Job, G: Gate, K: Knowing> State<'a, N, V, J, 
         ensures runs { IfOk result (λ runs. runs ≡ map (combined_run N.job N.records N.settings.split N.settings.reducers part) (range_with_len 0 N.settings.reducers)) }
         ensures stands { IfOk result (λ runs. (p : ℕ) → p < N.settings.reducers → RunStands N.job.reduced (pairs_of N.job N.records N.settings p) (slice_index_or runs p empty_run)) }
     {
-        Run::make_all(self.alloc, self.job, self.book, part, self.settings.reducers)
+        Run::make_all(
+            self.alloc,
+            self.job,
+            self.book,
+            part,
+            self.settings.reducers,
+        )
     }
 
     // The spill of a range is kept.
@@ -437,7 +451,9 @@ impl<'a, N: RunName, V: Folder, J: Job, G: Gate, K: Knowing> State<'a, N, V, J, 
     {
         match self.vault.keep_flat(spill) {
             Ok(()) => Ok(()),
-            Err(KeepFault::StoreFailed) => Err(Fault::SpillFailed { worker: self.worker() }),
+            Err(KeepFault::StoreFailed) => Err(Fault::SpillFailed {
+                worker: self.worker(),
+            }),
             Err(KeepFault::NoMemory) => Err(Fault::NoMemory),
         }
     }
@@ -491,13 +507,11 @@ impl<'a, N: RunName, V: Folder, J: Job, G: Gate, K: Knowing> State<'a, N, V, J, 
         };
         match self.keep(part) {
             Ok(runs) => {
-                self.set_work(Work::Runs(
-                    Running {
-                        split: run.split,
-                        attempt: run.attempt,
-                        done: end,
-                    },
-                ));
+                self.set_work(Work::Runs(Running {
+                    split: run.split,
+                    attempt: run.attempt,
+                    done: end,
+                }));
                 self.pass_gate(part);
                 turn_of(self.give_parts(reach, part, runs))
             }
@@ -507,14 +521,12 @@ impl<'a, N: RunName, V: Folder, J: Job, G: Gate, K: Knowing> State<'a, N, V, J, 
 
     // The gate lets it pass, once the spill of a range is kept.
     fn pass_gate(&self, part: Part) {
-        self.gate.pass(
-            Point::Spill {
-                worker: self.vault.worker(),
-                split: part.split,
-                attempt: part.attempt,
-                to: part.to,
-            },
-        );
+        self.gate.pass(Point::Spill {
+            worker: self.vault.worker(),
+            split: part.split,
+            attempt: part.attempt,
+            to: part.to,
+        });
     }
 
     // An attempt runs: it fails, commits or spills.
@@ -575,7 +587,10 @@ impl<'a, N: RunName, V: Folder, J: Job, G: Gate, K: Knowing> State<'a, N, V, J, 
         ensures cause { IfErr result (λ fault. StoreCause self.old.vault.worker (counts_of V.seen self.old.vault) (counts_of V.seen self.new.vault) (flush_fault self.old.vault.worker fault)) }
     {
         let worker = self.vault.worker();
-        match self.press.flush_all::<N, E, J, V>(reach, worker, self.job, &mut self.vault) {
+        match self
+            .press
+            .flush_all::<N, E, J, V>(reach, worker, self.job, &mut self.vault)
+        {
             Ok(()) => Ok(()),
             Err(fault) => {
                 self.failed = true;
@@ -740,7 +755,6 @@ impl<'a, N: RunName, V: Folder + Drop, J: Job, G: Gate, K: Knowing> State<'a, N,
             name: PhantomData,
         })
     }
-
 }
 
 impl<'a, N: RunName, V: Folder, J: Job, G: Gate, K: Knowing> State<'a, N, V, J, G, K> {

@@ -30,5 +30,5 @@ pub returns-clause-stands : goal.returns-clause-stands
 returns-clause-stands g c =
     let of_run = c.self.invariant.of_run in
     let q : ◌≡◌ {A = Meaning × BookValue × ℕ} (g.J.Job.meaning c.self.inside.job.now, c.self.inside.book.now, c.self.inside.settings.now.reducers) (g.N.RunName.job, book_of g.N.RunName.records g.N.RunName.settings, g.N.RunName.settings.reducers) =
-        λ i. (of_run.job_is i, of_run.book_is i, ap (λ (s : RunSettings). s.reducers) of_run.settings_are i) in
+    λ i. (of_run.job_is i, of_run.book_is i, ap (λ (s : RunSettings). s.reducers) of_run.settings_are i) in
     subst (λ (x : Meaning × BookValue × ℕ). IfOk c.make_all.result (λ runs. (p : ℕ) → p < x.2 → RunStands x.0.reduced (part_pairs x.0 x.1.records x.1.split p x.2) (slice_index_or runs p empty_run))) q c.make_all.ensures.stands

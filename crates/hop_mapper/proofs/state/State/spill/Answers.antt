@@ -24,14 +24,16 @@ more_there done spill len end h n s e = grind arith
 
 pub keep-requires : goal.keep-requires
 keep-requires g c =
-    let R = g.N.RunName in let here = c.requires.here in record { next = record {
-      split = here.split;
-      attempt = here.attempt;
-      kept = here.kept;
-      begins = begins_whole c.args.run.done R.settings.spill (split_len R.records R.settings c.args.run.split) here.whole c.requires.more;
-      some = more_there c.args.run.done R.settings.spill (split_len R.records R.settings c.args.run.split) c.spill_end-end.result here.within c.requires.more c.known.ensures.some_spill c.spill_end-end.ensures;
-      to = c.spill_end-end.ensures;
-    } }
+    let R = g.N.RunName in let here = c.requires.here in record {
+      next = record {
+        split = here.split;
+        attempt = here.attempt;
+        kept = here.kept;
+        begins = begins_whole c.args.run.done R.settings.spill (split_len R.records R.settings c.args.run.split) here.whole c.requires.more;
+        some = more_there c.args.run.done R.settings.spill (split_len R.records R.settings c.args.run.split) c.spill_end-end.result here.within c.requires.more c.known.ensures.some_spill c.spill_end-end.ensures;
+        to = c.spill_end-end.ensures;
+      };
+    }
 
 pub give_parts-requires-clause-whole : goal.give_parts-requires-clause-whole
 give_parts-requires-clause-whole g c =
