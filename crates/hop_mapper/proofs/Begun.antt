@@ -1,14 +1,14 @@
 -- A mapper that begins an attempt, and a mapper that looks for a split without a winner.
-use Rattle.std.proofs.Common.{◌≡◌, ◌≢◌, ℕ, suc, ◌+◌, ◌-◌, ◌<◌, ◌≤◌, ◌==◌, ◌&&◌, Bool, true, false, List, [], ◌∷◌, length, get_or, refl, sym, ap, ◌∙◌, subst, arith, if◌then◌else◌, Option, Some, None}
+use Rattle.std.proofs.Common.{◌≡◌, ℕ, suc, ◌+◌, ◌-◌, ◌<◌, ◌≤◌, ◌==◌, ◌&&◌, Bool, true, false, List, length, refl, sym, ap, ◌∙◌, subst, arith, if◌then◌else◌, Option, Some, None}
 use Rattle.std.specs.Prelude.{nat_lt, slice_index, slice_set, is_none}
 use Rattle.std.proofs.Math.Path.{fun_ext}
-use Rattle.std.proofs.lemmas.Bool.{eqb-true, eq-eqb, ltb-true, lt-ltb, true≢false}
+use Rattle.std.proofs.lemmas.Bool.{eqb-true, eq-eqb, lt-ltb, true≢false}
 use Rattle.std.proofs.lemmas.List.{get_or-set_same, get_or-set_other}
 use Rattle.hop_base.specs.Run.{ScriptLines, RunSettings}
 use Rattle.hop_event.specs.Legal.{Rules}
 use Rattle.hop_machine.specs.declared.words.Turn.{Turn}
 use Rattle.hop_machine.specs.declared.words.Who.TheVariants as whose
-use Rattle.hop_machine.specs.step.Steps.{Deeds, Steps, Runs, Prog, Done, Then, AskWinner}
+use Rattle.hop_machine.specs.step.Steps.{Deeds, Steps, Runs, Then, AskWinner}
 use Rattle.hop_machine.specs.home.Conditions.{May, Safe}
 use Rattle.hop_machine.specs.actors.MapperTurns.{Mapper, with_attempt, begun_work, begun_with, begins, backs_up, nothing_left}
 use Rattle.hop_machine.specs.actors.MapperTurns as machine

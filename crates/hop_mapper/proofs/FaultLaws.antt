@@ -1,5 +1,5 @@
 -- Why what is held can't go out, as a cause of a worker's fault.
-use Rattle.std.proofs.Common.{◌≡◌, ℕ, ◌<◌, Bool, true, false, Option, Some, None, inl, inr, refl, sym, ap, ◌∙◌}
+use Rattle.std.proofs.Common.{◌≡◌, ℕ, false, Option, None, inr, refl, ap}
 use Rattle.std.specs.Prelude.{is_some}
 use Rattle.hop_ports.specs.Views.{FolderView}
 use Rattle.hop_ports.specs.Causes.{OnlyRead}
@@ -9,7 +9,7 @@ use Rattle.hop_press.specs.declared.fault.FlushFault.{FlushFault}
 use Rattle.hop_press.specs.declared.fault.FlushFault.TheVariants as flush
 use Rattle.hop_press.specs.Faults.{FlushCause, FlushAnswered}
 use Rattle.hop_actors.specs.Acting.{said_fault}
-use Rattle.hop_actors.specs.Counting.{Counts, StoreCause}
+use Rattle.hop_actors.specs.Counting.{StoreCause}
 use Rattle.hop_mapper.specs.Mappers.{counts_of}
 use Rattle.hop_mapper.specs.Faults.{flush_fault}
 

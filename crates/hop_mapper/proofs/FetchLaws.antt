@@ -1,5 +1,5 @@
 -- A range that may be fetched is one of whole kept spills, and what is fetched stands for it.
-use Rattle.std.proofs.Common.{◌≡◌, ◌⊎◌, ℕ, zero, suc, ◌+◌, ◌*◌, ◌/◌, ◌%◌, ◌<◌, ◌≤◌, inl, inr, List, [], ◌∷◌, ◌++◌, Option, Some, None, refl, sym, ap, ◌∙◌, subst, arith}
+use Rattle.std.proofs.Common.{◌≡◌, ◌⊎◌, ℕ, ◌+◌, ◌*◌, ◌/◌, ◌%◌, ◌<◌, ◌≤◌, inl, inr, List, [], ◌∷◌, ◌++◌, Option, refl, sym, ap, ◌∙◌, subst, arith}
 use Rattle.std.specs.Prelude.{All, min, slice_index, IsSome, is_some}
 use Rattle.std.proofs.Math.Nat.{mod-add-div', lt_of_mul-lt-mul_right, mul-le-mul_right, add-mod_right, zero-mod, eq-or-lt_of_le}
 use Rattle.std.proofs.lemmas.Bool.{cases_lt}

@@ -1,5 +1,5 @@
 -- What is held fits a vault that has kept one spill more.
-use Rattle.std.proofs.Common.{◌≡◌, ℕ, ◌<◌, ◌==◌, ◌&&◌, Bool, true, false, cond, eqb, List, [], ◌∷◌, ◌++◌, refl, sym, ap, ◌∙◌, subst, append_assoc, append-nil}
+use Rattle.std.proofs.Common.{◌≡◌, ℕ, ◌<◌, ◌&&◌, Bool, true, false, cond, eqb, List, [], ◌∷◌, ◌++◌, sym, ap, ◌∙◌, subst, append_assoc}
 use Rattle.std.specs.Prelude.{All}
 use Rattle.std.proofs.lemmas.Bool.{eq-eqb}
 use Rattle.std.proofs.lemmas.List.Elements.{All-nil, All-cons, All-head, All-tail}
@@ -7,13 +7,13 @@ use Rattle.hop_base.specs.declared.part.Part.{Part}
 use Rattle.hop_base.specs.Meaning.{Meaning}
 use Rattle.hop_base.specs.Run.{RunSettings}
 use Rattle.hop_vault.specs.declared.kept.Kept.{Kept}
-use Rattle.hop_vault.specs.Rows.{Table, row_of, IsChain, IsStretch, AddsTo}
+use Rattle.hop_vault.specs.Rows.{Table, row_of, IsStretch, AddsTo}
 use Rattle.hop_machine.specs.step.Steps.{Verdicts, Deeds}
 use Rattle.hop_mapper.specs.Mappers.{MapperValue, SameStore, FitsBoard}
 use Rattle.hop_press.specs.declared.row.Row.{Row}
 use Rattle.hop_press.specs.declared.row.Row.TheVariants.{Range, Notice}
 use Rattle.hop_press.specs.Held.{LaneValue, lane_at}
-use Rattle.hop_press.specs.Fits.{IsWhole, FitsRow, LaneFits, HeldFits}
+use Rattle.hop_press.specs.Fits.{IsWhole, FitsRow, HeldFits}
 
 stretch_more : (row : List Kept) (from to : ℕ) (spills : List Kept) (kept : Kept) (b : Bool) → IsStretch row from to spills → IsStretch (cond b (row ++ kept ∷ []) row) from to spills
 stretch_more row from to spills kept false h = h

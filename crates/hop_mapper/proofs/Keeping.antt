@@ -1,6 +1,6 @@
 -- A vault keeps spills of the run alone when the next spill is kept, and when it isn't.
-use Rattle.std.proofs.Common.{◌≡◌, ◌≢◌, ℕ, ◌+◌, ◌<◌, ◌≤◌, ◌^◌, ◌&&◌, inl, inr, Bool, true, false, cond, eqb, List, [], ◌∷◌, ◌++◌, length, Option, Some, None, refl, sym, ap, subst, ◌∙◌, arith}
-use Rattle.std.specs.Prelude.{IfSome, IfErr, OnOk, IsTrue, IsSome, Result, Ok, Err, All, min, slice_index}
+use Rattle.std.proofs.Common.{◌≡◌, ◌≢◌, ℕ, ◌+◌, ◌<◌, ◌≤◌, ◌&&◌, inl, inr, Bool, true, false, cond, eqb, List, [], ◌∷◌, ◌++◌, Option, Some, None, refl, sym, ap, subst, ◌∙◌, arith}
+use Rattle.std.specs.Prelude.{IfSome, IfErr, OnOk, IsSome, Result, Ok, Err, All, min}
 use Rattle.std.specs.FinMap as map
 use Rattle.std.specs.Ordering.{nat_cmp, is_eq}
 use Rattle.std.specs.declared.cmp.Ordering.{Ordering}
@@ -25,11 +25,11 @@ use Rattle.hop_spill.specs.SpillFiles.{name_of, sheet_made, spill_made}
 use Rattle.hop_vault.specs.declared.kept.Kept.{Kept}
 use Rattle.hop_vault.specs.declared.kept.KeepFault.{KeepFault}
 use Rattle.hop_vault.specs.declared.kept.KeepFault.TheVariants as fault
-use Rattle.hop_vault.specs.Rows.{Table, row_of, end_of, kept_end, range_of, IsChain, SameRows, AddsTo}
-use Rattle.hop_vault.specs.Vaults.{IsSound, IsKept, IsKeptIn, KeepCause}
+use Rattle.hop_vault.specs.Rows.{Table, row_of, end_of, kept_end, range_of, IsChain, SameRows}
+use Rattle.hop_vault.specs.Vaults.{IsKept, IsKeptIn, KeepCause}
 use Rattle.hop_vault.proofs.NameLaws.{name_tells}
 use Rattle.hop_vault.proofs.SoundLaws.{chain_up, sound_kept}
-use Rattle.hop_press.specs.Fits.{IsMade, KeepsMade, made_at}
+use Rattle.hop_press.specs.Fits.{IsMade, KeepsMade}
 use Rattle.hop_mapper.specs.Next.{IsNext, split_len}
 
 not_tied : (name other : List ℕ) → name ≢ other → (o : Ordering) → slice_cmp nat_cmp name other ≡ o → is_eq o ≡ false

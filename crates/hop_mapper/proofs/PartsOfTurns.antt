@@ -1,17 +1,16 @@
 -- Parts of a mapper's turn run, by what their calls ran.
-use Rattle.std.proofs.Common.{◌≡◌, ℕ, ◌+◌, ◌&&◌, Bool, true, false, cond, eqb, List, [], ◌∷◌, refl, sym, ap, ◌∙◌, subst, if◌then◌else◌, Option, Some, None}
-use Rattle.std.specs.Prelude.{Result, Ok, Err, is_ok, nat_lt}
+use Rattle.std.proofs.Common.{◌≡◌, ℕ, ◌+◌, Bool, true, false, List, refl, sym, ap, ◌∙◌, subst, if◌then◌else◌}
+use Rattle.std.specs.Prelude.{Result, Ok, Err, nat_lt}
 use Rattle.hop_base.specs.Run.{delay_of}
 use Rattle.hop_base.specs.Run.{ScriptLines, RunSettings}
-use Rattle.hop_base.specs.declared.part.Part.{Part}
 use Rattle.hop_vault.specs.declared.kept.Kept.{Kept}
-use Rattle.hop_vault.specs.Rows.{Table, kept_end, SameRows, AddsTo}
+use Rattle.hop_vault.specs.Rows.{kept_end, SameRows, AddsTo}
 use Rattle.hop_vault.specs.Vaults.{VaultValue}
 use Rattle.hop_machine.specs.declared.words.Message.{Message}
 use Rattle.hop_machine.specs.declared.words.Message.TheVariants.{Range, Notice}
 use Rattle.hop_machine.specs.declared.words.Turn.{Turn}
 use Rattle.hop_machine.specs.declared.words.Turn.TheVariants.{Worked, Idle, Ended, Stopped}
-use Rattle.hop_machine.specs.step.Steps.{Deeds, Steps, Runs, Prog, Done, Then, and_then, Revoke}
+use Rattle.hop_machine.specs.step.Steps.{Deeds, Steps, Runs, Prog, Done, and_then, Revoke}
 use Rattle.hop_machine.specs.home.Conditions.{Safe}
 use Rattle.hop_machine.specs.actors.MapperTurns.{Mapper, Lane, Lanes, flush, acts, takes_turn, open_turn, mapper_turn, counted, with_end, is_ended, each_lane, offer, on_lanes, gives_notice, unless_spent, fails, commits, spills, has_spilled, part_of, keeps}
 use Rattle.hop_machine.specs.actors.MapperTurns as machine
@@ -22,7 +21,6 @@ use Rattle.hop_actors.specs.Acting.{said_turn, Maps}
 use Rattle.hop_actors.specs.Counting.{Counts, TurnCause}
 use Rattle.hop_mapper.specs.Faults.{turn_of}
 use Rattle.hop_mapper.specs.declared.work.Running.{Running}
-use Rattle.hop_mapper.specs.declared.work.Work.{Work}
 use Rattle.hop_mapper.specs.declared.work.Work.TheVariants as work
 use Rattle.hop_mapper.specs.Mappers.{MapperValue, mapper_of, work_of, running_of}
 use Rattle.hop_mapper.specs.Programs.{settles}

@@ -1,6 +1,6 @@
 -- A folder holds the files of the spills that were kept, when one more is.
-use Rattle.std.proofs.Common.{◌≡◌, ◌≢◌, ◌⊎◌, ℕ, ◌+◌, ◌*◌, ◌/◌, ◌%◌, ◌<◌, ◌≤◌, ◌^◌, ◌&&◌, inl, inr, Bool, true, false, cond, eqb, List, [], ◌∷◌, ◌++◌, Option, Some, None, refl, sym, ap, subst, ◌∙◌, arith}
-use Rattle.std.specs.Prelude.{IfSome, All, min, slice_index, slice_index_or}
+use Rattle.std.proofs.Common.{◌≡◌, ◌≢◌, ◌⊎◌, ℕ, ◌+◌, ◌*◌, ◌/◌, ◌%◌, ◌<◌, ◌≤◌, ◌^◌, ◌&&◌, inl, inr, Bool, true, false, cond, eqb, List, [], ◌∷◌, Option, Some, None, refl, sym, ap, subst, ◌∙◌, arith}
+use Rattle.std.specs.Prelude.{All, min, slice_index_or}
 use Rattle.hop_machine.specs.declared.words.Turn.{Turn}
 use Rattle.hop_machine.specs.home.MapperHome.{has_failed}
 use Rattle.hop_mapper.specs.Mappers.{MapperValue}
@@ -18,14 +18,14 @@ use Rattle.hop_ports.specs.Views.{FolderView, with_file}
 use Rattle.hop_records.specs.Records.{lens_of}
 use Rattle.hop_shelf.specs.Names.{book_of}
 use Rattle.hop_spill.specs.Spelling.{spill_text}
-use Rattle.hop_spill.specs.SpillFiles.{name_of, range_at, spill_made}
+use Rattle.hop_spill.specs.SpillFiles.{name_of, spill_made}
 use Rattle.hop_vault.specs.declared.kept.Kept.{Kept}
-use Rattle.hop_vault.specs.Rows.{Table, row_of, end_of, kept_end, IsChain, AddsTo}
+use Rattle.hop_vault.specs.Rows.{Table, row_of, kept_end, IsChain}
 use Rattle.hop_vault.proofs.NameLaws.{name_tells}
 use Rattle.hop_vault.proofs.SoundLaws.{chain_up}
 use Rattle.hop_press.specs.Fits.{IsMade, KeepsMade}
 use Rattle.hop_actors.specs.Spilled.{IsKeptSpill, HoldsMade, IsSpilled}
-use Rattle.hop_mapper.specs.Next.{IsNext, AddsSpill, AddsAtMost, split_len}
+use Rattle.hop_mapper.specs.Next.{AddsSpill, AddsAtMost, split_len}
 use Rattle.hop_mapper.proofs.Keeping.{get_other, get_itself}
 use Rattle.hop_mapper.proofs.TurnLaws.{ends_after}
 

@@ -1,6 +1,6 @@
 -- A mapper as it is made.
-use Rattle.std.proofs.Common.{◌≡◌, ℕ, zero, suc, ◌<◌, ◌≤◌, Bool, true, false, List, [], ◌∷◌, length, Option, Some, None, refl, sym, ap, ◌∙◌, subst, arith}
-use Rattle.std.specs.Prelude.{All, IfSome, replicate, slice_index, slice_index_or}
+use Rattle.std.proofs.Common.{◌≡◌, ℕ, zero, suc, ◌<◌, ◌≤◌, Bool, false, List, [], ◌∷◌, Option, Some, None, refl, sym, ap, ◌∙◌, subst, arith}
+use Rattle.std.specs.Prelude.{All, IfSome, replicate, slice_index}
 use Rattle.std.proofs.Math.Path.{fun_ext}
 use Rattle.std.proofs.lemmas.List.Elements.{All-nil}
 use Rattle.hop_base.specs.Files.{Files}
@@ -11,7 +11,6 @@ use Rattle.hop_shelf.specs.Names.{book_of, rules_of}
 use Rattle.hop_vault.specs.declared.kept.Kept.{Kept}
 use Rattle.hop_vault.specs.Rows.{Table, row_of, kept_end}
 use Rattle.hop_vault.specs.Vaults.{VaultValue}
-use Rattle.hop_machine.specs.declared.words.Message.{Message}
 use Rattle.hop_machine.specs.home.Starts.{new_mapper, nothing_held}
 use Rattle.hop_machine.specs.step.Steps.{Verdicts, Deeds}
 use Rattle.hop_press.specs.Fits.{IsMade, KeepsMade, FitsRow, LaneFits}

@@ -1,18 +1,17 @@
 -- Parts of a mapper's turn, from what their calls ran.
-use Rattle.std.proofs.Common.{◌≡◌, ℕ, ◌+◌, ◌-◌, ◌<◌, ◌≤◌, ◌&&◌, Bool, true, false, cond, eqb, List, [], ◌∷◌, ◌++◌, length, Option, Some, refl, sym, ap, ◌∙◌, subst, arith, if◌then◌else◌}
+use Rattle.std.proofs.Common.{◌≡◌, ℕ, ◌-◌, ◌&&◌, Bool, true, false, cond, eqb, List, [], ◌∷◌, ◌++◌, length, Option, Some, refl, sym, ap, ◌∙◌, arith, if◌then◌else◌}
 use Rattle.std.specs.Prelude.{unwrap_or}
 use Rattle.std.specs.Option.{option_map}
 use Rattle.std.proofs.Math.Path.{fun_ext}
 use Rattle.std.proofs.lemmas.List.{length_push, get_or_push}
 use Rattle.std.proofs.lemmas.Option.{slice_get-get_or}
 use Rattle.std.proofs.lemmas.Bool.{eqb-true, eq-eqb, true≢false}
-use Rattle.hop_event.specs.History.{same_attempt}
 use Rattle.hop_vault.specs.declared.kept.Kept.{Kept}
 use Rattle.hop_vault.specs.Rows.{Table, row_of, end_of, kept_end, SameRows, AddsTo}
 use Rattle.hop_machine.specs.declared.words.Message.{Message}
 use Rattle.hop_machine.specs.declared.words.Turn.{Turn}
 use Rattle.hop_machine.specs.declared.words.Turn.TheVariants.{Stopped}
-use Rattle.hop_machine.specs.step.Steps.{Deeds, Steps, Runs, Prog, Done, Then, and_then}
+use Rattle.hop_machine.specs.step.Steps.{Deeds, Runs, Prog, Done, Then, and_then}
 use Rattle.hop_machine.specs.home.Conditions.{Safe}
 use Rattle.hop_machine.specs.actors.MapperTurns.{Mapper, Lane, Lanes, each_lane, on_lanes, keeps}
 use Rattle.hop_machine.proofs.step.Programs.{Runs-and_then}

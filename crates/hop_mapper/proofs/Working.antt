@@ -1,5 +1,5 @@
 -- What at home says of the running attempt.
-use Rattle.std.proofs.Common.{◌≡◌, ℕ, ◌≤◌, List, length, sym, arith}
+use Rattle.std.proofs.Common.{ℕ, List, sym, arith}
 use Rattle.hop_base.specs.Run.{ScriptLines, RunSettings}
 use Rattle.hop_machine.specs.step.Steps.{Deeds}
 use Rattle.hop_machine.specs.home.Said.{SaidOfMapper, WorkIs}

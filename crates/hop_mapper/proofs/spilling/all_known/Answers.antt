@@ -1,4 +1,4 @@
-use Rattle.std.proofs.Common.{◌≡◌, ◌<◌, ◌≤◌, List, length, sym, subst, arith}
+use Rattle.std.proofs.Common.{List, subst, arith}
 use Rattle.std.specs.Prelude.{All}
 use Rattle.hop_base.specs.declared.value.Pair.{Pair}
 use Rattle.hop_base.specs.Order.{IsSheet}

@@ -1,4 +1,4 @@
-use Rattle.std.proofs.Common.{◌≡◌, ap}
+use Rattle.std.proofs.Common.{ap}
 use Rattle.hop_mapper.specs.Mappers.{MapperValue}
 use Rattle.hop_mapper.proofs.SpilledLaws.{holds_still}
 use Rattle.hop_mapper.proofs.mapper.Mapper.fetch_back.Goals as goal

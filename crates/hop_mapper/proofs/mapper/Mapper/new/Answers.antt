@@ -1,7 +1,6 @@
-use Rattle.std.proofs.Common.{◌≡◌, ◌∙◌, false, None, Some, sym, ap, subst}
+use Rattle.std.proofs.Common.{◌≡◌, ◌∙◌, None, Some, sym, ap, subst}
 use Rattle.std.specs.Prelude.{IfSome, slice_index_or}
 use Rattle.hop_vault.specs.Vaults.{VaultValue}
-use Rattle.hop_mapper.specs.Sound.{HoldsSpills}
 use Rattle.hop_mapper.proofs.Starting.{spilled_none, fits_none}
 use Rattle.hop_mapper.proofs.mapper.Mapper.new.Goals as goal
 

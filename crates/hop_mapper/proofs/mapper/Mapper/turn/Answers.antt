@@ -1,4 +1,4 @@
-use Rattle.std.proofs.Common.{◌≡◌, false, sym, ap, ◌∙◌, subst}
+use Rattle.std.proofs.Common.{◌≡◌, false, sym, subst}
 use Rattle.hop_actors.specs.Acting.{said_turn}
 use Rattle.hop_mapper.specs.Mappers.{MapperValue}
 use Rattle.hop_mapper.proofs.SpilledLaws.{holds_after}

@@ -1,13 +1,11 @@
-use Rattle.std.proofs.Common.{◌≡◌, ℕ, ◌+◌, ◌<◌, length, sym, subst, arith}
+use Rattle.std.proofs.Common.{ℕ, ◌<◌, length, arith}
 use Rattle.hop_records.specs.Records.{lens_of}
 use Rattle.hop_shelf.specs.Names.{book_of}
 use Rattle.hop_machine.specs.declared.words.Turn.{Turn}
-use Rattle.hop_machine.specs.step.Steps.{Runs}
-use Rattle.hop_machine.specs.home.Conditions.{Safe}
-use Rattle.hop_machine.specs.actors.MapperTurns.{Mapper, begins}
+use Rattle.hop_machine.specs.actors.MapperTurns.{Mapper}
 use Rattle.hop_inner.specs.Setups.{parts}
 use Rattle.hop_actors.specs.Acting.{said_turn}
-use Rattle.hop_mapper.specs.Mappers.{MapperValue, mapper_of}
+use Rattle.hop_mapper.specs.Mappers.{mapper_of}
 use Rattle.hop_mapper.proofs.Begun.{may_ask, found_safe, found_runs, next_safe, next_runs}
 use Rattle.hop_mapper.proofs.state.State.back_up.Goals as goal
 

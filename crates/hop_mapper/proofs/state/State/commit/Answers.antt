@@ -1,9 +1,9 @@
-use Rattle.std.proofs.Common.{◌≡◌, refl, sym, ap, ◌∙◌, subst}
+use Rattle.std.proofs.Common.{sym, subst}
 use Rattle.hop_machine.specs.actors.MapperTurns.{commits}
 use Rattle.hop_machine.specs.step.Steps.{Runs}
 use Rattle.hop_inner.specs.Setups.{parts}
 use Rattle.hop_actors.specs.Acting.{said_turn}
-use Rattle.hop_mapper.specs.Mappers.{MapperValue, mapper_of, running_of}
+use Rattle.hop_mapper.specs.Mappers.{mapper_of, running_of}
 use Rattle.hop_mapper.proofs.PartsOfTurns.{commit_safe, commit_either}
 use Rattle.hop_mapper.proofs.state.State.commit.Goals as goal
 

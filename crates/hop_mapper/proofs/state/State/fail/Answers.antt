@@ -1,7 +1,7 @@
-use Rattle.std.proofs.Common.{◌≡◌, refl, sym, ap, ◌∙◌, subst}
+use Rattle.std.proofs.Common.{subst}
 use Rattle.hop_inner.specs.Setups.{parts}
 use Rattle.hop_actors.specs.Acting.{said_turn}
-use Rattle.hop_mapper.specs.Mappers.{MapperValue, mapper_of, running_of}
+use Rattle.hop_mapper.specs.Mappers.{mapper_of}
 use Rattle.hop_machine.specs.step.Steps.{Runs}
 use Rattle.hop_machine.specs.actors.MapperTurns.{each_lane, offer}
 use Rattle.hop_machine.specs.declared.words.Message.TheVariants.{Notice}

@@ -1,4 +1,4 @@
-use Rattle.std.proofs.Common.{◌≡◌, ℕ, ◌<◌, ◌≤◌, sym, ap, ◌∙◌, subst, arith}
+use Rattle.std.proofs.Common.{ℕ, ◌≤◌, sym, ap, ◌∙◌, subst, arith}
 use Rattle.hop_base.specs.Run.{RunSettings}
 use Rattle.hop_actors.specs.Spilled.{MayFetch}
 use Rattle.hop_actors.specs.Counting.{StoreCause}

@@ -1,4 +1,4 @@
-use Rattle.std.proofs.Common.{◌<◌, sym, ◌∙◌, subst, arith}
+use Rattle.std.proofs.Common.{sym, ◌∙◌, subst, arith}
 use Rattle.hop_mapper.specs.Mappers.{MapperValue, FitsBoard}
 use Rattle.hop_mapper.proofs.Offering.{runs_count, runs_own}
 use Rattle.hop_mapper.proofs.state.State.give_parts.Goals as goal

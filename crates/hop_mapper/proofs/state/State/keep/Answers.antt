@@ -1,4 +1,4 @@
-use Rattle.std.proofs.Common.{◌≡◌, ℕ, ◌+◌, ◌<◌, ◌≤◌, arith}
+use Rattle.std.proofs.Common.{◌≡◌, ◌+◌, arith}
 use Rattle.std.specs.Prelude.{min}
 use Rattle.hop_spill.specs.Spelling.{spill_in}
 use Rattle.hop_mapper.specs.Next.{split_len}

@@ -1,6 +1,6 @@
-use Rattle.std.proofs.Common.{◌≡◌, ℕ, ◌<◌, ◌≤◌, length, sym, ap, ◌∙◌, subst, arith}
+use Rattle.std.proofs.Common.{◌≡◌, ℕ, ◌<◌, ◌≤◌, sym, ap, ◌∙◌, subst, arith}
 use Rattle.hop_base.specs.Run.{RunSettings}
-use Rattle.hop_records.specs.Records.{BookValue, splits_of, len_of, lens_of}
+use Rattle.hop_records.specs.Records.{BookValue, splits_of, len_of}
 use Rattle.hop_shelf.specs.Names.{book_of}
 use Rattle.hop_mapper.proofs.Splits.{lens_count, lens_at}
 use Rattle.hop_mapper.proofs.state.State.known.Goals as goal

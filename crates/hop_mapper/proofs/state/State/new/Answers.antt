@@ -1,4 +1,4 @@
-use Rattle.std.proofs.Common.{◌≡◌, ℕ, length, replicate, sym, ap, ◌∙◌}
+use Rattle.std.proofs.Common.{length, sym, ap, ◌∙◌}
 use Rattle.hop_records.specs.Records.{splits_of}
 use Rattle.hop_shelf.specs.Names.{book_of}
 use Rattle.hop_mapper.proofs.Splits.{lens_count}

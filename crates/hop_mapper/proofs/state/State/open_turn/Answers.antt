@@ -1,4 +1,4 @@
-use Rattle.std.proofs.Common.{◌≡◌, sym, ap, ◌∙◌, subst}
+use Rattle.std.proofs.Common.{sym, ◌∙◌}
 use Rattle.hop_machine.specs.declared.words.Turn.{Turn}
 use Rattle.hop_machine.specs.actors.MapperTurns.{Mapper}
 use Rattle.hop_inner.specs.Setups.{parts}

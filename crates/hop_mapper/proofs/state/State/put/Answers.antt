@@ -1,7 +1,6 @@
-use Rattle.std.proofs.Common.{◌≡◌, sym, subst}
+use Rattle.std.proofs.Common.{sym, subst}
 use Rattle.hop_mapper.specs.Mappers.{MapperValue}
 use Rattle.hop_mapper.specs.Next.{IsNext}
-use Rattle.hop_mapper.specs.Sound.{IsSound}
 use Rattle.hop_mapper.proofs.Keeping.{keeps_made, still_told}
 use Rattle.hop_spill.specs.Spelling.{spill_in}
 use Rattle.hop_mapper.proofs.state.State.put.Goals as goal

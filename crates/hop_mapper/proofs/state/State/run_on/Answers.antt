@@ -1,6 +1,6 @@
-use Rattle.std.proofs.Common.{◌≡◌, ◌==◌, Bool, sym, ◌∙◌, subst, if◌then◌else◌}
+use Rattle.std.proofs.Common.{◌==◌, Bool, sym, ◌∙◌, subst, if◌then◌else◌}
 use Rattle.hop_machine.specs.declared.words.Turn.{Turn}
-use Rattle.hop_machine.specs.actors.MapperTurns.{Mapper, must_fail, fails, commits, spills, len_of}
+use Rattle.hop_machine.specs.actors.MapperTurns.{Mapper, fails, commits, spills, len_of}
 use Rattle.hop_machine.specs.step.Steps.{Runs}
 use Rattle.hop_actors.specs.Acting.{said_turn}
 use Rattle.hop_mapper.specs.Mappers.{mapper_of, running_of}

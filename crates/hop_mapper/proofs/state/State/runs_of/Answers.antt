@@ -1,12 +1,11 @@
-use Rattle.std.proofs.Common.{◌≡◌, ℕ, ◌<◌, ◌≤◌, sym, ap, ◌∙◌, subst, arith}
-use Rattle.std.specs.Prelude.{IfOk, min, slice_index_or}
+use Rattle.std.proofs.Common.{◌≡◌, ℕ, ◌<◌, ◌≤◌, sym, ap, subst, arith}
+use Rattle.std.specs.Prelude.{IfOk, slice_index_or}
 use Rattle.hop_base.specs.Meaning.{Meaning}
 use Rattle.hop_base.specs.Run.{RunSettings}
 use Rattle.hop_laws.specs.Blocking.{part_pairs}
 use Rattle.hop_records.specs.Records.{BookValue, splits_of, len_of}
 use Rattle.hop_run.specs.Runs.{RunStands, empty_run}
 use Rattle.hop_shelf.specs.Names.{book_of}
-use Rattle.hop_mapper.specs.Next.{split_len}
 use Rattle.hop_mapper.proofs.Splits.{lens_count, lens_at}
 use Rattle.hop_mapper.proofs.state.State.runs_of.Goals as goal
 

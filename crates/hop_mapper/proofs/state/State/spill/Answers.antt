@@ -1,12 +1,9 @@
-use Rattle.std.proofs.Common.{◌≡◌, ◌⊎◌, ℕ, ◌+◌, ◌%◌, ◌<◌, ◌≤◌, inl, inr, length, refl, sym, ap, ◌∙◌, subst, arith}
+use Rattle.std.proofs.Common.{◌≡◌, ◌⊎◌, ℕ, ◌+◌, ◌%◌, ◌<◌, ◌≤◌, inl, inr, refl, sym, ap, ◌∙◌, subst, arith}
 use Rattle.std.specs.Prelude.{min}
 use Rattle.hop_machine.specs.actors.MapperTurns.{spills}
-use Rattle.hop_machine.specs.actors.MapperTurns as machine
 use Rattle.hop_machine.specs.step.Steps.{Runs}
 use Rattle.hop_inner.specs.Setups.{parts}
-use Rattle.hop_press.specs.Fits.{IsWhole, HeldFits}
-use Rattle.hop_shelf.specs.Names.{book_of, rules_of}
-use Rattle.hop_vault.specs.Rows.{SameRows}
+use Rattle.hop_press.specs.Fits.{IsWhole}
 use Rattle.hop_actors.specs.Acting.{said_turn}
 use Rattle.hop_mapper.specs.Mappers.{MapperValue, mapper_of, running_of, FitsBoard}
 use Rattle.hop_mapper.specs.Next.{split_len}

@@ -1,7 +1,6 @@
 use Rattle.std.proofs.Common.{◌≡◌, sym, ap, ◌∙◌, subst}
 use Rattle.hop_machine.specs.declared.words.Turn.{Turn}
 use Rattle.hop_machine.specs.step.Steps.{Runs}
-use Rattle.hop_machine.specs.home.Conditions.{Safe}
 use Rattle.hop_machine.specs.actors.MapperTurns.{Mapper, each_lane, flush, acts, takes_turn}
 use Rattle.hop_inner.specs.Setups.{parts}
 use Rattle.hop_press.specs.Held.{said_lanes, lanes_left}

@@ -1,11 +1,8 @@
-use Rattle.std.proofs.Common.{◌≡◌, ℕ, ◌+◌, ◌*◌, ◌≤◌, inl, refl, sym, ap, ◌∙◌, subst, arith}
-use Rattle.hop_machine.specs.declared.words.Turn.{Turn}
+use Rattle.std.proofs.Common.{◌+◌, ◌*◌, ◌≤◌, sym, ◌∙◌, arith}
 use Rattle.hop_machine.specs.home.MapperHome.{has_failed}
-use Rattle.hop_machine.specs.home.Conditions.{Safe}
-use Rattle.hop_machine.specs.actors.MapperTurns.{Mapper, mapper_turn}
 use Rattle.hop_inner.specs.Setups.{parts}
 use Rattle.hop_actors.specs.Acting.{said_turn}
-use Rattle.hop_mapper.specs.Mappers.{MapperValue, mapper_of}
+use Rattle.hop_mapper.specs.Mappers.{mapper_of}
 use Rattle.hop_mapper.proofs.PartsOfTurns.{open_safe, turned, over}
 use Rattle.hop_mapper.proofs.Working.{works_here}
 use Rattle.hop_mapper.proofs.state.State.turn.Goals as goal
