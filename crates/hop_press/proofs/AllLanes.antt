@@ -1,5 +1,5 @@
 -- A call at each lane in turn, as the program of all lanes.
-use Rattle.std.proofs.Common.{◌≡◌, ℕ, zero, suc, ◌+◌, ◌<◌, eqb, cond, Bool, true, false, List, [], ◌∷◌, ◌++◌, length, take, drop, map, get_or, refl, sym, ap, ◌∙◌, subst, arith, append-nil, append_assoc}
+use Rattle.std.proofs.Common.{◌≡◌, ℕ, zero, suc, ◌+◌, ◌<◌, eqb, cond, Bool, true, false, List, [], ◌∷◌, ◌++◌, length, take, drop, get_or, refl, sym, ap, ◌∙◌, subst, arith, append-nil, append_assoc}
 use Rattle.std.specs.Prelude.{slice_set}
 use Rattle.std.proofs.lemmas.Bool.{eqb-true, eq-eqb, true≢false}
 use Rattle.std.proofs.lemmas.List.{get_or-set_same, get_or-set_other, take-set, drop-set-lt, take_more_set, drop_more, map-append, length-set, take_all, drop_all, take-append-drop}
@@ -124,9 +124,9 @@ module _ {K : Type 0} (parts : ℕ) (e : Bool) (f : ℕ → List Said → Prog L
             let v = stopped_runs parts e f p (said_lane (lane_at lanes p)) (said_lanes (drop (p + 1) lanes)) now b (said_lane (lane_at new p)) r in
             let longer : p < length new = omega (arith, set_len lanes new p only) in
             let all : said_lanes (take p lanes) ++ said_lane (lane_at new p) ∷ said_lanes (drop (p + 1) lanes) ≡ said_lanes new =
-                (λ i. said_lanes (sym before i) ++ said_lane (lane_at new p) ∷ said_lanes (sym behind i))
-                ∙ sym (map-append said_lane (take p new) (lane_at new p ∷ drop (p + 1) new))
-                ∙ ap said_lanes (ap (λ (t : List (LaneValue K)). take p new ++ t) (sym (drop_more new p no_lane longer)) ∙ take-append-drop p new) in
+            (λ i. said_lanes (sym before i) ++ said_lane (lane_at new p) ∷ said_lanes (sym behind i))
+            ∙ sym (map-append said_lane (take p new) (lane_at new p ∷ drop (p + 1) new))
+            ∙ ap said_lanes (ap (λ (t : List (LaneValue K)). take p new ++ t) (sym (drop_more new p no_lane longer)) ∙ take-append-drop p new) in
             subst (λ (z : List (List Said)). Runs e (each_lane f 0 (said_lanes first)) start (record { went = false; held = z }) b) all (whole (record { went = false; held = said_lane (lane_at new p) ∷ said_lanes (drop (p + 1) lanes) }) b v)
 
 module _ {K : Type 0} (parts : ℕ) (e : Bool) (f : ℕ → List Said → Prog Lane) (first : List (LaneValue K)) (start : Deeds) where

@@ -1,5 +1,5 @@
 -- Ranges of whole kept spills that follow each other.
-use Rattle.std.proofs.Common.{◌≡◌, ℕ, ◌<◌, ◌≤◌, List, [], ◌∷◌, ◌++◌, length, refl, sym, ap, ◌∙◌, subst, arith, append_assoc}
+use Rattle.std.proofs.Common.{◌≡◌, ℕ, ◌<◌, ◌≤◌, List, [], ◌∷◌, ◌++◌, refl, sym, ap, ◌∙◌, subst, arith, append_assoc}
 use Rattle.hop_base.specs.declared.part.Part.{Part}
 use Rattle.hop_vault.specs.declared.kept.Kept.{Kept}
 use Rattle.hop_vault.specs.Rows.{Table, row_of, kept_end, IsChain, IsStretch}
@@ -73,9 +73,9 @@ pub whole_joined : (table : Table) (one other both : Part) → AreChained table 
     → both ≡ record { split = one.split; attempt = one.attempt; from = one.from; to = other.to } → IsWhole table both
 whole_joined table one other both chain g h s t u is =
     let moved : IsStretch (row_of table one.split one.attempt) one.to other.to h.spills =
-        let P : Part → Type 0 = λ q. IsStretch (row_of table q.split q.attempt) q.from other.to h.spills in
-        let at : part_at other.split other.attempt other.from other.to ≡ part_at one.split one.attempt one.to other.to = λ k. record { split = s k; attempt = t k; from = u k; to = other.to } in
-        subst P at h.stretch in
+    let P : Part → Type 0 = λ q. IsStretch (row_of table q.split q.attempt) q.from other.to h.spills in
+    let at : part_at other.split other.attempt other.from other.to ≡ part_at one.split one.attempt one.to other.to = λ k. record { split = s k; attempt = t k; from = u k; to = other.to } in
+    subst P at h.stretch in
     subst (λ (q : Part). IsWhole table q) (sym is) record {
       spills = g.spills ++ h.spills;
       stretch = stretches_joined (row_of table one.split one.attempt) (kept_end table one.split one.attempt) one.from one.to other.to g.spills h.spills (chain one.split one.attempt) g.stretch moved;

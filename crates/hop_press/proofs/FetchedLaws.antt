@@ -1,6 +1,6 @@
 -- What is read back of a held range stands for it.
-use Rattle.std.proofs.Common.{◌≡◌, ℕ, ◌<◌, ◌≤◌, List, [], ◌∷◌, ◌++◌, length, map, Option, Some, None, append-nil, Bool, refl, sym, ap, ◌∙◌, subst, arith, append_assoc}
-use Rattle.std.specs.Prelude.{All, IsSome, IfSome, IsTrue}
+use Rattle.std.proofs.Common.{◌≡◌, ℕ, ◌<◌, ◌≤◌, List, [], ◌∷◌, ◌++◌, map, Option, Some, None, append-nil, Bool, refl, sym, ap, ◌∙◌, subst, arith}
+use Rattle.std.specs.Prelude.{All, IsSome, IsTrue}
 use Rattle.std.specs.List.{AllByRecursion}
 use Rattle.std.specs.FinMap as files_map
 use Rattle.std.proofs.lemmas.Bool.{true≢false}
@@ -24,7 +24,6 @@ use Rattle.hop_laws.proofs.Emitted.{valid_part}
 use Rattle.hop_laws.proofs.StandsLaws.{stands_itself, stands_through, stands_sorted, stands_merged, stands_combined}
 use Rattle.hop_run.proofs.MergeLaws.{ord_permutes}
 use Rattle.hop_shelf.specs.Names.{IsRun, pairs_of}
-use Rattle.hop_shelf.specs.Covered.{IsByRecords}
 use Rattle.hop_shelf.proofs.RecordLaws.{by_records}
 use Rattle.hop_spill.specs.declared.spill.Spill.{Spill}
 use Rattle.hop_spill.specs.Spelling.{spill_text}
@@ -110,12 +109,12 @@ module _ (job : Meaning) (records : List (List ℕ)) (settings : RunSettings) (r
       let made = all_within (IsMade job records settings (Some files) i a) (row_of table i a) part.from part.to whole.spills whole.stretch (keeps.made i a) in
       let spills : List Spill = map (made_at job records settings i a) whole.spills in
       let are : sheets ≡ map (sheet_at p below i a) whole.spills =
-          of_held files spills refl (held_from files i a part.from whole.spills part.to whole.stretch.chain made)
-          ∙ map_twice (λ (spill : Spill). sheet_of spill p) (made_at job records settings i a) whole.spills in
+      of_held files spills refl (held_from files i a part.from whole.spills part.to whole.stretch.chain made)
+      ∙ map_twice (λ (spill : Spill). sheet_of spill p) (made_at job records settings i a) whole.spills in
       let known : All IsValidPair (pairs_in (map (sheet_at p below i a) whole.spills)) = subst (λ (t : List (List Pair)). All IsValidPair (pairs_in t)) are each in
       let stands : StandsFor job.reduced (pairs_in sheets) (pairs_of job records settings p part) =
-          subst (λ (t : List (List Pair)). StandsFor job.reduced (pairs_in t) (pairs_of job records settings p part)) (sym are)
-          (sheets_stand p below i a part.from whole.spills part.to whole.stretch.chain (recursion_from_All IsValidPair (pairs_in (map (sheet_at p below i a) whole.spills)) known)) in
+      subst (λ (t : List (List Pair)). StandsFor job.reduced (pairs_in t) (pairs_of job records settings p part)) (sym are)
+      (sheets_stand p below i a part.from whole.spills part.to whole.stretch.chain (recursion_from_All IsValidPair (pairs_in (map (sheet_at p below i a) whole.spills)) known)) in
       stands_through job.reduced (ord pair_cmp (pairs_in sheets)) (pairs_in sheets) (pairs_of job records settings p part) (stands_sorted job.reduced (pairs_in sheets) (ord pair_cmp (pairs_in sheets)) (ord_permutes (pairs_in sheets))) stands
 
   -- each kept spill of an attempt has a sheet of partition p

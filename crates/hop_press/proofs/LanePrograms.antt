@@ -1,9 +1,9 @@
 -- The programs of one lane, step by step.
-use Rattle.std.proofs.Common.{◌≡◌, ℕ, Bool, true, false, List, [], ◌∷◌, ◌++◌, refl, sym, ap, ◌∙◌}
+use Rattle.std.proofs.Common.{◌≡◌, ℕ, Bool, true, false, List, [], ◌∷◌, ◌++◌, refl, ap, ◌∙◌}
 use Rattle.hop_machine.specs.declared.words.Message.{Message}
 use Rattle.hop_machine.specs.step.Steps.{Deeds, Prog, Done, Then, Steps, Runs, Send}
 use Rattle.hop_machine.specs.actors.MapperTurns.{Lane, flush, offer, with_row, joined, last_row}
-use Rattle.hop_machine.specs.home.Conditions.{May, Safe}
+use Rattle.hop_machine.specs.home.Conditions.{Safe}
 use Rattle.hop_machine.proofs.step.Programs.{risk_steps}
 
 module _ (parts : ℕ) (e : Bool) (w p : ℕ) (m : Message) where

@@ -7,7 +7,7 @@ use Rattle.hop_vault.specs.Rows.{Table}
 use Rattle.hop_machine.specs.step.Steps.{Verdicts}
 use Rattle.hop_press.specs.Held.{LaneValue, lane_at, IsReady, AreReady}
 use Rattle.hop_press.specs.Fits.{LaneFits, HeldFits}
-use Rattle.hop_press.proofs.AllLanes.{set_each, there}
+use Rattle.hop_press.proofs.AllLanes.{set_each}
 
 module _ {K : Type 0} where
   -- where a lane is changed, all are ready if it is

@@ -1,13 +1,11 @@
 -- A vault that was only read, with no fault.
-use Rattle.std.proofs.Common.{◌≡◌, ℕ, ◌≤◌, Option, refl, sym, ap, ◌∙◌, subst, arith}
-use Rattle.std.specs.Prelude.{IsSome, IsTrue, Bool}
+use Rattle.std.proofs.Common.{◌≡◌, ℕ, Option, refl, ◌∙◌, subst, arith}
 use Rattle.hop_base.specs.Causes.{Rose}
 use Rattle.hop_base.specs.Files.{Files}
 use Rattle.hop_ports.specs.Views.{FolderView}
 use Rattle.hop_ports.specs.Causes.{OnlyRead}
 use Rattle.hop_vault.specs.Rows.{Table}
 use Rattle.hop_vault.specs.Vaults.{VaultValue, IsDamaged, Collides as CollidesAt}
-use Rattle.hop_base.specs.declared.part.Part.{Part}
 use Rattle.hop_press.specs.declared.fault.FlushFault.{FlushFault}
 use Rattle.hop_press.specs.declared.fault.FlushFault.TheVariants.{SpillFailed, Damaged, Collides, NoMemory}
 use Rattle.hop_press.specs.Faults.{FlushCause, FlushAnswered}

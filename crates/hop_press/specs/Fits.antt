@@ -1,5 +1,5 @@
 -- When what is held can be sent, and what the vault has of it.
-use Rattle.std.specs.Prelude.{◌≡◌, ℕ, ◌+◌, Bool, List, length, map, min, All, Option, None, Some, IfSome, slice_index}
+use Rattle.std.specs.Prelude.{◌≡◌, ℕ, ◌+◌, Bool, List, min, All, Option, Some, IfSome, slice_index}
 use Rattle.std.specs.FinMap as map_of
 use Rattle.sha2.specs.Sha256.{sha256}
 use Rattle.hop_base.specs.declared.part.Part.{Part}

@@ -1,8 +1,5 @@
 //! Why a flush stops.
-ghost use Rattle.std.specs.Prelude.{◌≢◌};
-
 use hop_base::Part;
-use hop_vault::FetchFault;
 use thiserror::Error;
 
 /// Why what is held isn't sent: a held range can't be read back from the worker's spills.

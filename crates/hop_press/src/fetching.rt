@@ -1,5 +1,5 @@
 //! Held ranges read back.
-ghost use Rattle.std.specs.Prelude.{◌≡◌, ℕ, ◌<◌, ◌∷◌, [], List, All, IsTrue, IsSome, IfOk, IfErr, OnOk};
+ghost use Rattle.std.specs.Prelude.{◌≡◌, ◌<◌, ◌∷◌, [], List, All, IsTrue, IsSome, IfOk, IfErr, OnOk};
 ghost use Rattle.std.specs.List.{flat_map};
 ghost use Rattle.hop_base.specs.declared.part.Part.{Part};
 ghost use Rattle.hop_base.specs.declared.value.Pair.{Pair};
@@ -66,13 +66,9 @@ fn fault_of(fault: FetchFault) -> FlushFault
     }
 }
 
-// The sheets merged and combined, as a run of the part. It stands for what the sheets together stand for.
-fn joined<J: Job>(
-    alloc: Global,
-    job: &J,
-    part: Part,
-    sheets: FlatSheets,
-) -> Result<Run, NoMemory>
+// The sheets merged and combined, as a run of one part, the whole range. It stands for what the sheets together
+// stand for: what map emits for a range is what it emits for its pieces, one after the other.
+fn joined<J: Job>(alloc: Global, job: &J, part: Part, sheets: FlatSheets) -> Result<Run, NoMemory>
     ensures parts { IfOk result (λ run. run.parts ≡ part ∷ []) }
     ensures valid { IfOk result (λ run. All IsValidPair run.sheet) }
     ensures stands { (pairs_of : Part → List Pair)

@@ -1,9 +1,9 @@
 //! What is held for one lane.
-ghost use Rattle.std.specs.Prelude.{◌≡◌, ℕ, ◌≢◌, ◌+◌, ◌<◌, ◌≤◌, [], ◌↔◌, ◌++◌, List, map, IsTrue, IsSome, IfSome, IfOk, IfErr, OnOk, OnErr, None, All};
+ghost use Rattle.std.specs.Prelude.{◌≡◌, ℕ, ◌≢◌, ◌+◌, ◌<◌, ◌≤◌, [], ◌↔◌, ◌++◌, List, map, IsTrue, IsSome, IfSome, IfErr, OnOk, OnErr, None, All};
 ghost use Rattle.std.specs.Option.{option_map};
 ghost use Rattle.std.specs.VecDeque.{deque_len, deque_capacity};
 ghost use Rattle.hop_ports.specs.Causes.{OnlyRead};
-ghost use Rattle.hop_shelf.specs.Names.{pairs_of, IsRun};
+ghost use Rattle.hop_shelf.specs.Names.{IsRun};
 ghost use Rattle.hop_machine.specs.declared.words.Message.TheVariants as machine;
 ghost use Rattle.hop_machine.specs.step.Steps.{Runs};
 ghost use Rattle.hop_machine.specs.actors.MapperTurns.{flush, offer, with_row, joined, last_row};
@@ -259,10 +259,7 @@ fn continued(before: &Part, after: &Part) -> Option<Part>
     ensures joined { joined (machine.Range before.now) (machine.Range after.now) ≡ option_map machine.Range result }
     ensures whole { (table : Table) → AreChained table → IsWhole table before.now → IsWhole table after.now → IfSome result (IsWhole table) }
 {
-    if after.split == before.split
-        && after.attempt == before.attempt
-        && after.from == before.to
-    {
+    if after.split == before.split && after.attempt == before.attempt && after.from == before.to {
         Some(Part {
             to: after.to,
             ..*before

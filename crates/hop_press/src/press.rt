@@ -1,5 +1,5 @@
 //! What is held for all lanes.
-ghost use Rattle.std.specs.Prelude.{◌≡◌, ℕ, ◌<◌, ◌≤◌, ◌∷◌, [], ◌↔◌, true, length, replicate, slice_index_or, IsTrue, IsSome, IfOk, IfErr, OnOk, OnErr};
+ghost use Rattle.std.specs.Prelude.{◌≡◌, ℕ, ◌<◌, ◌≤◌, true, length, replicate, slice_index_or, IsTrue, IsSome, IfOk, IfErr, OnOk};
 ghost use Rattle.hop_ports.specs.Causes.{OnlyRead};
 ghost use Rattle.hop_run.specs.Runs.{RunStands, empty_run};
 ghost use Rattle.hop_shelf.specs.Names.{pairs_of, IsRun};
@@ -230,6 +230,7 @@ impl<K: Knowing> Press<K> {
             → AreChained table → IsWhole table part
             → HeldFits N.job N.records N.settings N.tells table K.knows K.board (E.deeds reach.new).ends.board self.new }
     {
+        // There are at most 255 lanes.
         let _lanes = &self.lanes;
         let mut p = 0;
         for run in runs.into_vec() {

@@ -14,7 +14,7 @@ returns-clause-stands g c = λ pairs_of h.
     let reduced = (g.J.Job.meaning c.args.job.now).reduced in
     let all : List Pair = pairs_in c.args.sheets in
     let is : c.in_ok-merged.merged ≡ ord pair_cmp all =
-        c.in_ok-merged.ensures ∙ ap (λ (rs : List RunValue). ord pair_cmp (flat_map (λ r. r.sheet) rs)) c.deref.ensures.value ∙ ap (λ (ps : List Pair). ord pair_cmp ps) c.in_ok-runs.ensures in
+    c.in_ok-merged.ensures ∙ ap (λ (rs : List RunValue). ord pair_cmp (flat_map (λ r. r.sheet) rs)) c.deref.ensures.value ∙ ap (λ (ps : List Pair). ord pair_cmp ps) c.in_ok-runs.ensures in
     let stands = h (ordered_valid all c.in_ok-merged.merged is c.known.ensures.valid) in
     c.in_ok-combined.ensures.stands pairs_of
     (one_part reduced pairs_of c.args.part c.in_ok-merged.merged c.in_ok-run.run' c.in_ok-run.ensures

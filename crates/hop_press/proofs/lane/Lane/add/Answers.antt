@@ -1,4 +1,4 @@
-use Rattle.std.proofs.Common.{◌≡◌, ◌∙◌, ap, sym, ◌++◌, ◌∷◌, [], subst}
+use Rattle.std.proofs.Common.{◌≡◌, ◌∙◌, ap, sym, ◌++◌, ◌∷◌, []}
 use Rattle.hop_press.specs.Held.{LaneValue}
 use Rattle.hop_press.specs.Fits.{FitsRow}
 use Rattle.hop_press.proofs.LaneLaws.{said_joined, last_row_of}

@@ -3,7 +3,7 @@ use Rattle.std.specs.Prelude.{is_ok, All}
 use Rattle.hop_machine.specs.declared.words.Message.{Message}
 use Rattle.hop_machine.specs.step.Steps.{Runs, Ends}
 use Rattle.hop_machine.specs.home.Conditions.{Safe}
-use Rattle.hop_machine.specs.actors.MapperTurns.{flush, Lane}
+use Rattle.hop_machine.specs.actors.MapperTurns.{flush}
 use Rattle.hop_vault.specs.Rows.{Table}
 use Rattle.hop_inner.specs.Setups.{parts}
 use Rattle.hop_inner.specs.Messages.{said}

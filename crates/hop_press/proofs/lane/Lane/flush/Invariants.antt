@@ -1,4 +1,4 @@
-use Rattle.std.proofs.Common.{length, ◌≡◌}
+use Rattle.std.proofs.Common.{length}
 use Rattle.hop_machine.specs.step.Steps.{Runs, Deeds}
 use Rattle.hop_machine.specs.home.Conditions.{Safe}
 use Rattle.hop_machine.specs.actors.MapperTurns.{flush, Lane}

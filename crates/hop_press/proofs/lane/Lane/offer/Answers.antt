@@ -4,7 +4,6 @@ use Rattle.hop_machine.specs.declared.words.Message.{Message as Said}
 use Rattle.hop_machine.specs.actors.MapperTurns.{with_row}
 use Rattle.hop_inner.specs.Messages.{said, FitsAt}
 use Rattle.hop_press.specs.Held.{LaneValue, said_row}
-use Rattle.hop_press.specs.Fits.{FitsRow}
 use Rattle.hop_press.proofs.LaneLaws.{offer_held, if_some_at}
 use Rattle.hop_press.proofs.lane.Lane.offer.Goals as goal
 

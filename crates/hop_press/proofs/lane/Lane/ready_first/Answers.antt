@@ -1,4 +1,4 @@
-use Rattle.std.proofs.Common.{◌≡◌, ◌∙◌, ap, sym, ◌∷◌, List, subst}
+use Rattle.std.proofs.Common.{◌≡◌, ◌∙◌, ap, sym, ◌∷◌, subst}
 use Rattle.hop_press.specs.declared.row.Row.{Row}
 use Rattle.hop_press.specs.Held.{LaneValue}
 use Rattle.hop_press.specs.Fits.{FitsRow}

@@ -1,7 +1,7 @@
-use Rattle.std.proofs.Common.{◌≡◌, ap, sym, List}
+use Rattle.std.proofs.Common.{◌≡◌, ap, sym}
 use Rattle.hop_machine.specs.step.Steps.{Ends}
 use Rattle.hop_machine.specs.actors.MapperTurns.{flush}
-use Rattle.hop_press.specs.Held.{LaneValue, said_lane, lane_left}
+use Rattle.hop_press.specs.Held.{said_lane, lane_left}
 use Rattle.hop_press.proofs.LanePrograms.{runs_keep_ends}
 use Rattle.hop_press.proofs.PressLaws.{fits_moved, fits_set}
 use Rattle.hop_press.proofs.press.Press.flush.Goals as goal

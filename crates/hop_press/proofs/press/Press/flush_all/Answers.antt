@@ -1,4 +1,4 @@
-use Rattle.std.proofs.Common.{◌≡◌, ◌<◌, ◌∙◌, Bool, false, ap, sym, length, List, subst, arith}
+use Rattle.std.proofs.Common.{◌≡◌, ◌<◌, ◌∙◌, Bool, false, sym, length, subst, arith}
 use Rattle.std.specs.Prelude.{is_ok}
 use Rattle.hop_vault.specs.Rows.{Table}
 use Rattle.hop_machine.specs.step.Steps.{Runs}

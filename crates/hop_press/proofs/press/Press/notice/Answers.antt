@@ -13,7 +13,7 @@ pub returns-clause-ready : goal.returns-clause-ready
 returns-clause-ready g c = ready_set c.self.inside.lanes.items c.args.self.now c.args.p c.offer.new.self c.self.view_is c.requires.lane c.requires.ready c.offer.ensures.ready
 
 pub returns-clause-fits : goal.returns-clause-fits
-returns-clause-fits g c = λ table h .
+returns-clause-fits g c = λ table h.
     let E = g.E.Reach in let N = g.N.RunName in let K = g.K.Knowing in
     let p = c.args.p in
     let a = E.deeds c.args.reach.now in let b = E.deeds c.offer.new.reach in

@@ -1,15 +1,15 @@
-use Rattle.std.proofs.Common.{◌≡◌, ◌<◌, ◌∙◌, Bool, true, false, ap, sym, length, List, subst, arith}
+use Rattle.std.proofs.Common.{◌≡◌, ◌<◌, ◌∙◌, Bool, true, false, sym, length, subst, arith}
 use Rattle.std.specs.Prelude.{is_ok}
 use Rattle.hop_machine.specs.declared.words.Message.TheVariants.{Notice}
-use Rattle.hop_machine.specs.step.Steps.{Deeds, Runs, Grows, Ends}
+use Rattle.hop_machine.specs.step.Steps.{Deeds, Runs}
 use Rattle.hop_machine.specs.actors.MapperTurns.{offer, each_lane}
 use Rattle.hop_machine.proofs.step.Told.{Runs-grows, grows_both}
 use Rattle.hop_inner.specs.Setups.{parts}
-use Rattle.hop_press.specs.Held.{said_lane, said_lanes, lane_at, lane_left}
+use Rattle.hop_press.specs.Held.{said_lane, said_lanes, lane_at}
 use Rattle.hop_press.specs.Fits.{HeldFits}
 use Rattle.hop_press.proofs.LaneLaws.{not_ok}
 use Rattle.hop_press.proofs.LanePrograms.{runs_keep_ends}
-use Rattle.hop_press.proofs.AllLanes.{between_may, between_goes_on, between_stops, between_ends}
+use Rattle.hop_press.proofs.AllLanes.{between_goes_on, between_stops, between_ends}
 use Rattle.hop_press.proofs.press.Press.notice_all.Goals as goal
 
 pub loop-p-preserved : goal.loop-p-preserved

@@ -1,6 +1,5 @@
-use Rattle.std.proofs.Common.{◌≡◌, List, length}
+use Rattle.std.proofs.Common.{◌≡◌, length}
 use Rattle.hop_machine.specs.declared.words.Message.TheVariants.{Notice}
-use Rattle.hop_machine.specs.declared.words.Who.TheVariants as actor
 use Rattle.hop_machine.specs.actors.MapperTurns.{offer}
 use Rattle.hop_machine.specs.step.Steps.{Grows}
 use Rattle.hop_vault.specs.Rows.{Table}

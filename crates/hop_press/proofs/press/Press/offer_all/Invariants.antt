@@ -1,4 +1,4 @@
-use Rattle.std.proofs.Common.{◌≡◌, List, length}
+use Rattle.std.proofs.Common.{◌≡◌, length}
 use Rattle.hop_machine.specs.declared.words.Message.TheVariants.{Range}
 use Rattle.hop_machine.specs.actors.MapperTurns.{offer}
 use Rattle.hop_vault.specs.Rows.{Table}
