@@ -20,6 +20,10 @@ pub trait Store<N: RunName, E: Reach<N>>: Actor<N, E> {
     /// What its folder holds, where it tells.
     ghost held: { Self → Option Files };
 
+    /// Unless a turn failed, its folder holds what it held at the start, and the files of what it kept. It does nothing: proofs learn it so.
+    fn known(&self)
+        ensures { Self.failed self.now ≡ false → IsSpilled N.job N.records N.settings.split N.settings.reducers N.settings.spill (mapper self.now).rules.lens (mapper self.now).kept (slice_index_or N.spills (mapper self.now).number None) (held self.now) };
+
     /// The end of the kept spills of the attempt, in records of its split: 0 where there are none.
     fn kept(&self, split: u32, attempt: u8) -> u32
         ensures { result ≡ (mapper self.now).kept split attempt };
@@ -41,8 +45,4 @@ pub trait Store<N: RunName, E: Reach<N>>: Actor<N, E> {
         ensures cause { IfErr result (StoreCause (mapper self.old).number (Self.counts self.old) (Self.counts self.new)) };
 
     ghost is_mapper: { (s : Self) → Self.acting s ≡ Maps (mapper s) };
-
-    // Unless a turn failed, its folder holds what it held at the start, and the files of what it kept.
-    ghost spilled: { (s : Self) → Self.failed s ≡ false
-        → IsSpilled N.job N.records N.settings.split N.settings.reducers N.settings.spill (mapper s).rules.lens (mapper s).kept (slice_index_or N.spills (mapper s).number None) (held s) };
 }

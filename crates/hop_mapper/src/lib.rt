@@ -4,6 +4,7 @@
 //! job ends).
 #![tactic(auto)]
 
+mod acting;
 mod faults;
 pub mod mapper;
 mod scripted;

@@ -97,7 +97,7 @@ impl<'a, N: RunName, V: Folder, J: Job, G: Gate, K: Knowing> Mapper<'a, N, V, J,
 
     /// One turn: the machine's program of a mapper's turn runs. No turn of it failed before, it is at home in a
     /// value that has its ends, and what it holds can be sent over them.
-    pub fn turn<E: Reach<N, Seat = K>>(&mut self, reach: &mut E) -> Turn
+    pub(crate) fn take_turn<E: Reach<N, Seat = K>>(&mut self, reach: &mut E) -> Turn
         requires well { self.old.failed ≡ false }
         requires may { MayMap (mapper_of N.records N.script N.settings self.old) (E.deeds reach.old) }
         requires fits { FitsBoard N.job N.records N.settings N.tells K.knows K.board self.old (E.deeds reach.old) }
@@ -111,14 +111,14 @@ impl<'a, N: RunName, V: Folder, J: Job, G: Gate, K: Knowing> Mapper<'a, N, V, J,
     }
 
     /// The end of the kept spills of the attempt, in records of its split: 0 where there are none.
-    pub fn kept(&self, split: u32, attempt: u8) -> u32
+    pub(crate) fn kept_end(&self, split: u32, attempt: u8) -> u32
         ensures { result ≡ (mapper_of N.records N.script N.settings self.now).kept split attempt }
     {
         self.state.kept(split, attempt)
     }
 
     /// One more than the greatest attempt of the split that it began, at most 16: 0 where it began none.
-    pub fn begun(&self, split: u32) -> u8
+    pub(crate) fn begun_of(&self, split: u32) -> u8
         ensures { result ≡ (mapper_of N.records N.script N.settings self.now).begun split }
     {
         self.state.begun(split)
@@ -126,7 +126,7 @@ impl<'a, N: RunName, V: Folder, J: Job, G: Gate, K: Knowing> Mapper<'a, N, V, J,
 
     /// The sheets of partition `p` of whole kept spills, in order: the range begins and ends where spills do.
     /// Where the spill folders tell, all their pairs together stand for the range. A fault comes as in a turn.
-    pub fn fetch_back(&mut self, part: Part, p: u8) -> Result<FlatSheets, Fault>
+    pub(crate) fn fetch(&mut self, part: Part, p: u8) -> Result<FlatSheets, Fault>
         requires range { MayFetch (mapper_of N.records N.script N.settings self.old) part }
         requires partition { p < N.settings.reducers }
         ensures mapper { mapper_of N.records N.script N.settings self.new ≡ mapper_of N.records N.script N.settings self.old }
@@ -141,7 +141,7 @@ impl<'a, N: RunName, V: Folder, J: Job, G: Gate, K: Knowing> Mapper<'a, N, V, J,
     }
 
     /// What its folder holds, unless a turn failed. It does nothing: proofs learn it so.
-    pub fn known(&self)
+    pub(crate) fn holds_spills(&self)
         ensures { HoldsSpills N.job N.records N.settings N.spills V.seen self.now }
     {
         let _state = &self.state;

@@ -2,7 +2,7 @@ use Rattle.std.proofs.Common.{◌≡◌, false, sym, subst}
 use Rattle.hop_actors.specs.Acting.{said_turn}
 use Rattle.hop_mapper.specs.Mappers.{MapperValue}
 use Rattle.hop_mapper.proofs.SpilledLaws.{holds_after}
-use Rattle.hop_mapper.proofs.mapper.Mapper.turn.Goals as goal
+use Rattle.hop_mapper.proofs.mapper.Mapper.take_turn.Goals as goal
 
 pub invariant_of-self : goal.invariant_of-self
 invariant_of-self g c =

@@ -1,7 +1,7 @@
 use Rattle.std.proofs.Common.{ap}
 use Rattle.hop_mapper.specs.Mappers.{MapperValue}
 use Rattle.hop_mapper.proofs.SpilledLaws.{holds_still}
-use Rattle.hop_mapper.proofs.mapper.Mapper.fetch_back.Goals as goal
+use Rattle.hop_mapper.proofs.mapper.Mapper.fetch.Goals as goal
 
 pub invariant_of-self : goal.invariant_of-self
 invariant_of-self g c =
