@@ -1,5 +1,5 @@
 //! Actors.
-ghost use Rattle.std.specs.Prelude.{◌≡◌, Bool, false};
+ghost use Rattle.std.specs.Prelude.{◌≡◌, ℕ, Bool, false, List};
 ghost use Rattle.hop_machine.specs.home.MapperHome.{has_failed};
 ghost use Rattle.hop_actors.specs.Acting.{Acting, MayTurn, Turned, kind_of, said_turn};
 ghost use Rattle.hop_actors.specs.Counting.{Counts, TurnCause};
@@ -20,6 +20,9 @@ pub trait Actor<N: RunName, E: Reach<N>> {
     /// What contracts see of its folder.
     ghost counts: { Self → Counts };
 
+    /// What it holds for its lanes can be sent over ends of the board of this name, whose seats its notices bring.
+    ghost fits: { Self → List ℕ → Type 0 };
+
     /// Its kind.
     fn kind(&self) -> Kind
         ensures { result ≡ kind_of (acting self.now) };
@@ -28,7 +31,9 @@ pub trait Actor<N: RunName, E: Reach<N>> {
     fn turn(&mut self, reach: &mut E) -> Turn
         requires well { failed self.old ≡ false }
         requires may { MayTurn (acting self.old) (E.deeds reach.old) }
+        requires fits { fits self.old (E.deeds reach.old).ends.board }
         ensures turned { Turned E.exact (acting self.old) (E.deeds reach.old) (acting self.new) (said_turn result) (E.deeds reach.new) }
         ensures well { has_failed (said_turn result) ≡ false → failed self.new ≡ false }
+        ensures fits { fits self.new (E.deeds reach.new).ends.board }
         ensures cause { TurnCause (acting self.old) (counts self.old) (counts self.new) result };
 }

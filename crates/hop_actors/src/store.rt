@@ -1,5 +1,5 @@
 //! What a coordinator asks of a mapper.
-ghost use Rattle.std.specs.Prelude.{◌≡◌, false, ℕ, ◌<◌, IsTrue, IfOk, IfErr, OnOk, Option, slice_index_or, None};
+ghost use Rattle.std.specs.Prelude.{◌≡◌, false, ℕ, List, ◌<◌, IsTrue, IfOk, IfErr, OnOk, Option, slice_index_or, None};
 ghost use Rattle.hop_base.specs.Files.{Files};
 ghost use Rattle.hop_shelf.specs.Names.{pairs_of};
 ghost use Rattle.hop_machine.specs.actors.MapperTurns.{Mapper};
@@ -20,6 +20,10 @@ pub trait Store<N: RunName, E: Reach<N>>: Actor<N, E> {
     /// What its folder holds, where it tells.
     ghost held: { Self → Option Files };
 
+    /// Unless a turn failed, its folder holds what it held at the start, and the files of what it kept. It does nothing: proofs learn it so.
+    fn known(&self)
+        ensures { Self.failed self.now ≡ false → IsSpilled N.job N.records N.settings.split N.settings.reducers N.settings.spill (mapper self.now).rules.lens (mapper self.now).kept (slice_index_or N.spills (mapper self.now).number None) (held self.now) };
+
     /// The end of the kept spills of the attempt, in records of its split: 0 where there are none.
     fn kept(&self, split: u32, attempt: u8) -> u32
         ensures { result ≡ (mapper self.now).kept split attempt };
@@ -35,13 +39,10 @@ pub trait Store<N: RunName, E: Reach<N>>: Actor<N, E> {
         ensures mapper { mapper self.new ≡ mapper self.old }
         ensures failed { Self.failed self.new ≡ Self.failed self.old }
         ensures held { held self.new ≡ held self.old }
+        ensures fits { (board : List ℕ) → Self.fits self.old board → Self.fits self.new board }
         ensures stands { IfOk result (λ sheets. IsTrue N.tells → TogetherStand N.job.reduced sheets (pairs_of N.job N.records N.settings p part)) }
         ensures answered { OnOk result (Self.counts self.new ≡ Self.counts self.old) }
         ensures cause { IfErr result (StoreCause (mapper self.old).number (Self.counts self.old) (Self.counts self.new)) };
 
     ghost is_mapper: { (s : Self) → Self.acting s ≡ Maps (mapper s) };
-
-    // Unless a turn failed, its folder holds what it held at the start, and the files of what it kept.
-    ghost spilled: { (s : Self) → Self.failed s ≡ false
-        → IsSpilled N.job N.records N.settings.split N.settings.reducers N.settings.spill (mapper s).rules.lens (mapper s).kept (slice_index_or N.spills (mapper s).number None) (held s) };
 }

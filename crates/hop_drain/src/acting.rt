@@ -17,6 +17,8 @@ impl<'a, N: RunName, E: Reach<N>> Actor<N, E> for Drain<'a, N> {
 
     ghost counts = { λ r. no_folder };
 
+    ghost fits = { λ r board. Unit {0} };
+
     fn kind(&self) -> Kind {
         let _p = self.p;
         Kind::Reducer

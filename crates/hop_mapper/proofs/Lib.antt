@@ -1,0 +1,15 @@
+pub mod Sizes
+pub mod Made
+pub mod Splits
+pub mod Keeping
+pub mod Begun
+pub mod TurnLaws
+pub mod PartsOfTurns
+pub mod Fitting
+pub mod Offering
+pub mod SpilledLaws
+pub mod FaultLaws
+pub mod Starting
+pub mod Working
+pub mod FetchLaws
+pub mod Reading

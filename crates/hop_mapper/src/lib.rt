@@ -1,0 +1,16 @@
+//! A map worker's turn: it sends what is held, begins attempts, maps their records spill by spill, keeps
+//! each spill in its vault, and offers a part of it to every reducer as soon as it is kept (Condie and
+//! others, "MapReduce Online", NSDI 2010: pipelining between map and reduce, with spills kept until the
+//! job ends).
+#![tactic(auto)]
+
+mod acting;
+mod faults;
+pub mod mapper;
+mod scripted;
+mod spilling;
+mod state;
+pub mod work;
+
+pub use mapper::Mapper;
+pub use work::{Running, Work};
