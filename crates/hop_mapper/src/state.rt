@@ -759,6 +759,8 @@ impl<'a, N: RunName, V: Folder + Drop, J: Job, G: Gate, K: Knowing> State<'a, N,
 
 impl<'a, N: RunName, V: Folder, J: Job, G: Gate, K: Knowing> State<'a, N, V, J, G, K> {
     ghost use Rattle.std.specs.Prelude.{IsTrue};
+    ghost use Rattle.hop_machine.specs.declared.words.Turn.TheVariants as said;
+    ghost use Rattle.hop_actors.specs.Acting.{said_fault};
     ghost use Rattle.hop_shelf.specs.Names.{pairs_of};
     ghost use Rattle.hop_actors.specs.Counting.{StoreCause};
     ghost use Rattle.hop_actors.specs.Spilled.{MayFetch, TogetherStand};
@@ -790,6 +792,7 @@ impl<'a, N: RunName, V: Folder, J: Job, G: Gate, K: Knowing> State<'a, N, V, J, 
         ensures stands { IfOk result (λ sheets. IsTrue N.tells → TogetherStand N.job.reduced sheets (pairs_of N.job N.records N.settings p part)) }
         ensures answered { OnOk result (counts_of V.seen self.new.vault ≡ counts_of V.seen self.old.vault) }
         ensures cause { IfErr result (StoreCause self.old.vault.worker (counts_of V.seen self.old.vault) (counts_of V.seen self.new.vault)) }
+        ensures stops { IfErr result (λ fault. said_fault fault ≡ said.Stopped) }
     {
         let worker = self.vault.worker();
         let sheets = match self.vault.fetch_flat(part, p) {
