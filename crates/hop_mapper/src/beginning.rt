@@ -14,7 +14,6 @@ use hop_inner::{Knowing, Reach};
 use hop_laws::Job;
 use hop_machine::Who;
 use hop_ports::{Folder, Gate};
-use hop_run::Runs;
 
 impl<'a, N: RunName, V: Folder, J: Job, G: Gate, K: Knowing> State<'a, N, V, J, G, K> {
     ghost use Rattle.std.specs.Prelude.{Option};
