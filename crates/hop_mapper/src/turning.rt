@@ -14,7 +14,6 @@ use hop_laws::Job;
 use hop_machine::mapper_laws::{mapper_is_safe, mapper_says};
 use hop_ports::{Folder, Gate};
 use hop_press::FlushFault;
-use hop_run::Runs;
 
 impl<'a, N: RunName, V: Folder, J: Job, G: Gate, K: Knowing> State<'a, N, V, J, G, K> {
     ghost use Rattle.std.specs.Prelude.{◌^◌};
