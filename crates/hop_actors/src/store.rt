@@ -2,8 +2,9 @@
 ghost use Rattle.std.specs.Prelude.{◌≡◌, false, ℕ, List, ◌<◌, IsTrue, IfOk, IfErr, OnOk, Option, slice_index_or, None};
 ghost use Rattle.hop_base.specs.Files.{Files};
 ghost use Rattle.hop_shelf.specs.Names.{pairs_of};
+ghost use Rattle.hop_machine.specs.declared.words.Turn.TheVariants as said;
 ghost use Rattle.hop_machine.specs.actors.MapperTurns.{Mapper};
-ghost use Rattle.hop_actors.specs.Acting.{Maps};
+ghost use Rattle.hop_actors.specs.Acting.{Maps, said_fault};
 ghost use Rattle.hop_actors.specs.Counting.{StoreCause};
 ghost use Rattle.hop_actors.specs.Spilled.{IsSpilled, MayFetch, TogetherStand};
 
@@ -42,7 +43,8 @@ pub trait Store<N: RunName, E: Reach<N>>: Actor<N, E> {
         ensures fits { (board : List ℕ) → Self.fits self.old board → Self.fits self.new board }
         ensures stands { IfOk result (λ sheets. IsTrue N.tells → TogetherStand N.job.reduced sheets (pairs_of N.job N.records N.settings p part)) }
         ensures answered { OnOk result (Self.counts self.new ≡ Self.counts self.old) }
-        ensures cause { IfErr result (StoreCause (mapper self.old).number (Self.counts self.old) (Self.counts self.new)) };
+        ensures cause { IfErr result (StoreCause (mapper self.old).number (Self.counts self.old) (Self.counts self.new)) }
+        ensures stops { IfErr result (λ fault. said_fault fault ≡ said.Stopped) };
 
     ghost is_mapper: { (s : Self) → Self.acting s ≡ Maps (mapper s) };
 }

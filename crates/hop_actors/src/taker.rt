@@ -1,5 +1,5 @@
 //! What a coordinator asks of a reducer.
-ghost use Rattle.std.specs.Prelude.{◌≡◌, IsTrue, is_ok};
+ghost use Rattle.std.specs.Prelude.{◌≡◌, IsTrue, is_ok, false, ℕ, List};
 ghost use Rattle.hop_records.specs.Records.{lens_of};
 ghost use Rattle.hop_shelf.specs.Names.{book_of, pairs_of};
 ghost use Rattle.hop_machine.specs.step.Steps.{Runs};
@@ -10,6 +10,7 @@ ghost use Rattle.hop_machine.specs.play.Places.{is_late};
 ghost use Rattle.hop_actors.specs.Acting.{Reduces, MayCall};
 ghost use Rattle.hop_actors.specs.Spilled.{TogetherStand};
 ghost use Rattle.hop_actors.specs.Calls.{MayEnd, found};
+ghost use Rattle.hop_actors.specs.Counting.{no_folder};
 
 use crate::actor::Actor;
 use hop_base::{FlatSheets, Lens, NoMemory, Part, RunName};
@@ -84,4 +85,12 @@ pub trait Taker<N: RunName, E: Reach<N>>: Actor<N, E> {
         ensures runs { Runs E.exact (finish (reducer self.old)) (E.deeds reach.old) (is_ok result) (E.deeds reach.new) };
 
     ghost is_reducer: { (s : Self) → Self.acting s ≡ Reduces (reducer s) };
+
+    // Where a turn of it fails, memory was wanting: it stays at home, and may have another.
+    ghost never_failed: { (s : Self) → Self.failed s ≡ false };
+
+    ghost without_folder: { (s : Self) → Self.counts s ≡ no_folder };
+
+    // It holds nothing for lanes.
+    ghost fits_any: { (s : Self) (board : List ℕ) → Self.fits s board };
 }

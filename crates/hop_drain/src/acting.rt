@@ -84,4 +84,10 @@ impl<'a, N: RunName, E: Reach<N>> Taker<N, E> for Drain<'a, N> {
     }
 
     ghost is_reducer = { λ s. refl };
+
+    ghost never_failed = { λ s. refl };
+
+    ghost without_folder = { λ s. refl };
+
+    ghost fits_any = { λ s board. tt };
 }

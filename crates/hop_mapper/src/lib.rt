@@ -5,11 +5,15 @@
 #![tactic(auto)]
 
 mod acting;
+mod beginning;
 mod faults;
 pub mod mapper;
+mod running;
 mod scripted;
 mod spilling;
+mod spills;
 mod state;
+mod turning;
 pub mod work;
 
 pub use mapper::Mapper;

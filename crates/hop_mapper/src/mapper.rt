@@ -79,7 +79,8 @@ impl<'a, N: RunName, V: Folder, J: Job, G: Gate, K: Knowing> Mapper<'a, N, V, J,
     ghost use Rattle.hop_machine.specs.actors.MapperTurns.{mapper_turn};
     ghost use Rattle.hop_machine.specs.home.MapperHome.{has_failed};
     ghost use Rattle.hop_machine.specs.step.Steps.{Runs};
-    ghost use Rattle.hop_actors.specs.Acting.{said_turn, Maps, MayMap};
+    ghost use Rattle.hop_actors.specs.Acting.{said_turn, said_fault, Maps, MayMap};
+    ghost use Rattle.hop_machine.specs.declared.words.Turn.TheVariants as said;
     ghost use Rattle.hop_actors.specs.Counting.{StoreCause, TurnCause};
     ghost use Rattle.hop_actors.specs.Spilled.{MayFetch, TogetherStand};
     ghost use Rattle.hop_shelf.specs.Names.{pairs_of};
@@ -136,6 +137,7 @@ impl<'a, N: RunName, V: Folder, J: Job, G: Gate, K: Knowing> Mapper<'a, N, V, J,
         ensures stands { IfOk result (λ sheets. IsTrue N.tells → TogetherStand N.job.reduced sheets (pairs_of N.job N.records N.settings p part)) }
         ensures answered { OnOk result (counts_of V.seen self.new.vault ≡ counts_of V.seen self.old.vault) }
         ensures cause { IfErr result (StoreCause self.old.vault.worker (counts_of V.seen self.old.vault) (counts_of V.seen self.new.vault)) }
+        ensures stops { IfErr result (λ fault. said_fault fault ≡ said.Stopped) }
     {
         self.state.fetch_back(part, p)
     }
