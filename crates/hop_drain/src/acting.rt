@@ -20,7 +20,6 @@ impl<'a, N: RunName, E: Reach<N>> Actor<N, E> for Drain<'a, N> {
     ghost fits = { λ r board. Unit {0} };
 
     fn kind(&self) -> Kind {
-        let _p = self.p;
         Kind::Reducer
     }
 
