@@ -6,7 +6,7 @@ use Rattle.std.proofs.lemmas.Bool.{true≢false}
 use Rattle.std.proofs.lemmas.List.Elements.{recursion_from_All}
 use Rattle.hop_event.specs.declared.event.Event.{Event}
 use Rattle.hop_event.specs.declared.event.Event.TheVariants.{Arrive, Ignore, Won, Revoked, Restart, Finish}
-use Rattle.hop_trace.specs.Trace.{event_line, begun_line, history_lines, all_begun, all_histories, last_line, trace_lines}
+use Rattle.hop_trace.specs.Trace.{event_line, begun_line, history_lines, begun_lines, all_histories, last_line, trace_lines}
 use Rattle.hop_trace.specs.Told.{IsNumber, IsEvent, IsTold, TellsAll}
 use Rattle.hop_trace.proofs.TextLaws.{IsLine, number_word, via_word, name_word, lines_told}
 use Rattle.hop_trace.proofs.EventLaws.{first_is, number_told, event_told, no_event_reducer, no_event_last}
@@ -51,7 +51,7 @@ trace_is_lines name begun histories h =
           (refl, (number_word (length begun) h.splits, tt)),
           (
             (refl, (number_word (length histories) h.reducers, tt)),
-            all_joined IsLine (all_begun begun) (all_histories histories ++ last_line ∷ []) numbers (all_joined IsLine (all_histories histories) (last_line ∷ []) events ((refl, tt), tt)),
+            all_joined IsLine (begun_lines begun) (all_histories histories ++ last_line ∷ []) numbers (all_joined IsLine (all_histories histories) (last_line ∷ []) events ((refl, tt), tt)),
           ),
         ),
       ),
@@ -122,6 +122,6 @@ pub trace_told : (name begun : List ℕ) (histories : List (List Event)) → IsT
 trace_told name begun histories h name' begun' histories' k e =
     let lines = lines_told (trace_lines name' begun' histories') (trace_lines name begun histories) (trace_is_lines name' begun' histories' k) (trace_is_lines name begun histories h) e in
     let named : name' ≡ name = cc in
-    let rest : all_begun begun' ++ (all_histories histories' ++ last_line ∷ []) ≡ all_begun begun ++ (all_histories histories ++ last_line ∷ []) = cc in
+    let rest : begun_lines begun' ++ (all_histories histories' ++ last_line ∷ []) ≡ begun_lines begun ++ (all_histories histories ++ last_line ∷ []) = cc in
     let both = begun_told 0 begun' begun (all_histories histories' ++ last_line ∷ []) (all_histories histories ++ last_line ∷ []) (recursion_from_All IsNumber begun' k.numbers) (recursion_from_All IsNumber begun h.numbers) (behind_begun histories') (behind_begun histories) rest in
     (named, both.0, histories_told 0 histories' histories (each_all histories' (recursion_from_All (All IsEvent) histories' k.events)) (each_all histories (recursion_from_All (All IsEvent) histories h.events)) both.1)

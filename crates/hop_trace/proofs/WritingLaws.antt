@@ -3,12 +3,12 @@ use Rattle.std.proofs.Common.{◌≡◌, ℕ, ◌+◌, ◌<◌, ◌≤◌, List,
 use Rattle.std.specs.Prelude.{codes}
 use Rattle.std.specs.List.{flat_map, enumerate_from}
 use Rattle.std.proofs.Math.Seq.{drop-cons}
-use Rattle.std.proofs.lemmas.List.{drop_all, take_all}
+use Rattle.std.proofs.lemmas.List.{drop_all, flat_map_more, take_all, take_more}
 use Rattle.std.proofs.lemmas.List.Folds.{flat_map-map}
 use Rattle.std.proofs.lemmas.Grind.{flat_map-append}
 use Rattle.hop_event.specs.declared.event.Event.{Event}
 use Rattle.hop_event.specs.History.{HistoryValue}
-use Rattle.hop_trace.specs.Trace.{event_line, begun_line, number_line, history_lines, all_begun, all_histories, first_lines, last_line, line_text, text_of, trace_of, in_order}
+use Rattle.hop_trace.specs.Trace.{event_line, begun_line, number_line, history_lines, begun_lines, all_histories, first_lines, last_line, line_text, text_of, trace_of, in_order}
 
 module _ {A : Type 0} (piece : ℕ × A → List ℕ) where
   -- what is still to come behind the first i items
@@ -26,6 +26,10 @@ module _ {A : Type 0} (piece : ℕ × A → List ℕ) where
   pub pieces_end : (xs : List A) (i : ℕ) (whole text : List ℕ) → length xs ≤ i → text ++ pieces_from i xs ≡ whole → text ≡ whole
   pieces_end xs i whole text l h = sym (append-nil text) ∙ sym (ap (λ ys. text ++ flat_map piece (enumerate_from i ys)) (drop_all i xs l)) ∙ h
 
+-- one more piece of a loop that counts what it has done
+pub each_more : {A : Type 0} (piece : A → List ℕ) (xs : List A) (i : ℕ) (d : A) (t0 t1 t2 : List ℕ) → i < length xs → t1 ≡ t0 ++ flat_map piece (take i xs) → t2 ≡ t1 ++ piece (get_or xs i d) → t2 ≡ t0 ++ flat_map piece (take (i + 1) xs)
+each_more piece xs i d t0 t1 t2 l h k = k ∙ ap (λ t. t ++ piece (get_or xs i d)) h ∙ flat_map_more piece t0 (take i xs) (get_or xs i d) ∙ ap (λ ys. t0 ++ flat_map piece ys) (sym (take_more xs i d l))
+
 -- pieces of pieces
 pub flat_map-flat_map : {A B C : Type 0} (g : B → List C) (f : A → List B) (xs : List A) → flat_map g (flat_map f xs) ≡ flat_map (λ x. flat_map g (f x)) xs
 flat_map-flat_map g f [] = refl
@@ -36,7 +40,7 @@ pub first_written : (name t0 t1 t2 t3 t4 t5 : List ℕ) (s r : ℕ) → t1 ≡ t
 first_written name t0 t1 t2 t3 t4 t5 s r h i j k l = rw (l, k, j, i, h) (simp append_assoc)
 
 -- the lines of the splits
-pub begun_written : (begun : List ℕ) (i : ℕ) (t0 t1 : List ℕ) → length begun ≤ i → t1 ++ pieces_from (λ x. line_text (begun_line x)) i begun ≡ t0 ++ flat_map (λ x. line_text (begun_line x)) (enumerate_from 0 begun) → t1 ≡ t0 ++ text_of (all_begun begun)
+pub begun_written : (begun : List ℕ) (i : ℕ) (t0 t1 : List ℕ) → length begun ≤ i → t1 ++ pieces_from (λ x. line_text (begun_line x)) i begun ≡ t0 ++ flat_map (λ x. line_text (begun_line x)) (enumerate_from 0 begun) → t1 ≡ t0 ++ text_of (begun_lines begun)
 begun_written begun i t0 t1 l h = pieces_end (λ x. line_text (begun_line x)) begun i _ t1 l h ∙ ap (λ t. t0 ++ t) (sym (flat_map-map line_text begun_line (enumerate_from 0 begun)))
 
 -- the lines of one reducer
@@ -55,14 +59,14 @@ text_of-append : (xs ys : List (List (List ℕ))) → text_of (xs ++ ys) ≡ tex
 text_of-append xs ys = flat_map-append line_text xs ys
 
 -- the lines of a trace
-pub trace_written : (name begun : List ℕ) (histories : List (List Event)) (t0 t1 t2 t3 t4 : List ℕ) → t0 ≡ [] → t1 ≡ t0 ++ text_of (first_lines name (length begun) (length histories)) → t2 ≡ t1 ++ text_of (all_begun begun) → t3 ≡ t2 ++ text_of (all_histories histories) → t4 ≡ t3 ++ codes "end\n" → t4 ≡ trace_of name begun histories
+pub trace_written : (name begun : List ℕ) (histories : List (List Event)) (t0 t1 t2 t3 t4 : List ℕ) → t0 ≡ [] → t1 ≡ t0 ++ text_of (first_lines name (length begun) (length histories)) → t2 ≡ t1 ++ text_of (begun_lines begun) → t3 ≡ t2 ++ text_of (all_histories histories) → t4 ≡ t3 ++ codes "end\n" → t4 ≡ trace_of name begun histories
 trace_written name begun histories t0 t1 t2 t3 t4 h i j k l =
     let first : List (List (List ℕ)) = first_lines name (length begun) (length histories) in
-    let three : text_of first ++ (text_of (all_begun begun) ++ (text_of (all_histories histories) ++ text_of (last_line ∷ []))) ≡ trace_of name begun histories
-    = ap (λ t. text_of first ++ (text_of (all_begun begun) ++ t)) (sym (text_of-append (all_histories histories) (last_line ∷ [])))
-    ∙ ap (λ t. text_of first ++ t) (sym (text_of-append (all_begun begun) (all_histories histories ++ last_line ∷ [])))
-    ∙ sym (text_of-append first (all_begun begun ++ (all_histories histories ++ last_line ∷ []))) in
-    rw (l, k, j, i, h) (append_assoc (text_of first ++ text_of (all_begun begun)) (text_of (all_histories histories)) (codes "end\n") ∙ append_assoc (text_of first) (text_of (all_begun begun)) (text_of (all_histories histories) ++ codes "end\n") ∙ three)
+    let three : text_of first ++ (text_of (begun_lines begun) ++ (text_of (all_histories histories) ++ text_of (last_line ∷ []))) ≡ trace_of name begun histories
+    = ap (λ t. text_of first ++ (text_of (begun_lines begun) ++ t)) (sym (text_of-append (all_histories histories) (last_line ∷ [])))
+    ∙ ap (λ t. text_of first ++ t) (sym (text_of-append (begun_lines begun) (all_histories histories ++ last_line ∷ [])))
+    ∙ sym (text_of-append first (begun_lines begun ++ (all_histories histories ++ last_line ∷ []))) in
+    rw (l, k, j, i, h) (append_assoc (text_of first ++ text_of (begun_lines begun)) (text_of (all_histories histories)) (codes "end\n") ∙ append_assoc (text_of first) (text_of (begun_lines begun)) (text_of (all_histories histories) ++ codes "end\n") ∙ three)
 
 pub length-in_order : (histories : List HistoryValue) → length (in_order histories) ≡ length histories
 length-in_order [] = refl

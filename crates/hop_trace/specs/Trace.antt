@@ -34,10 +34,11 @@ begun_line (i, attempts) = codes "begun" ∷ decimal i ∷ decimal attempts ∷ 
 abbrev pub history_lines : ℕ × List Event → List (List (List ℕ))
 history_lines (p, events) = number_line (codes "reducer") p ∷ map event_line events
 
--- the lines of the splits, and those of the reducers
-abbrev pub all_begun : List ℕ → List (List (List ℕ))
-all_begun begun = map begun_line (enumerate_from 0 begun)
+-- the lines of the splits
+abbrev pub begun_lines : List ℕ → List (List (List ℕ))
+begun_lines begun = map begun_line (enumerate_from 0 begun)
 
+-- the lines of the reducers
 abbrev pub all_histories : List (List Event) → List (List (List ℕ))
 all_histories histories = flat_map history_lines (enumerate_from 0 histories)
 
@@ -50,7 +51,7 @@ last_line = codes "end" ∷ []
 
 -- the lines of a trace
 abbrev pub trace_lines : List ℕ → List ℕ → List (List Event) → List (List (List ℕ))
-trace_lines name begun histories = first_lines name (length begun) (length histories) ++ (all_begun begun ++ (all_histories histories ++ last_line ∷ []))
+trace_lines name begun histories = first_lines name (length begun) (length histories) ++ (begun_lines begun ++ (all_histories histories ++ last_line ∷ []))
 
 -- the words with one space between, and the line feed
 abbrev pub line_text : List (List ℕ) → List ℕ

@@ -1,7 +1,9 @@
 //! The text of a trace.
-ghost use Rattle.std.specs.Prelude.{◌≡◌, ◌++◌, IfOk, OnOk};
+ghost use Rattle.std.specs.Prelude.{◌≡◌, ◌++◌, IfOk, OnOk, All};
 ghost use Rattle.std.specs.List.{flat_map, enumerate_from};
-ghost use Rattle.hop_trace.specs.Trace.{in_order, trace_of, first_lines, all_begun, all_histories, text_of};
+ghost use Rattle.hop_laws.specs.Laws.{IsName};
+ghost use Rattle.hop_trace.specs.Told.{IsEvent, IsTold, TellsAll};
+ghost use Rattle.hop_trace.specs.Trace.{in_order, trace_of, first_lines, begun_lines, all_histories, text_of};
 
 use crate::lines::{push_begun, push_history, push_last};
 use hop_base::{Blob, Listed, NoMemory, Text};
@@ -21,6 +23,10 @@ pub fn trace_text(
     histories: &[History],
 ) -> Result<Text, NoMemory>
     ensures text { IfOk result (λ text. text ≡ trace_of name.now begun.now (in_order histories.now)) }
+    ensures told { IfOk result (λ text. IsName name.now → IsTold name.now begun.now (in_order histories.now)) }
+
+    // It is the trace of nothing else.
+    ensures tells { IfOk result (λ text. IsName name.now → TellsAll name.now begun.now (in_order histories.now)) }
 {
     let mut text = Vec::new(alloc);
     push_first(&mut text, name.as_slice(), begun.len(), histories.len())?;
@@ -49,7 +55,7 @@ fn push_first(
 
 // Writes the lines of the splits.
 fn push_all_begun(text: &mut Vec<u8>, begun: &[u8]) -> Result<(), NoMemory>
-    ensures { OnOk result (text.new.items ≡ text.old.items ++ text_of (all_begun begun.now)) }
+    ensures { OnOk result (text.new.items ≡ text.old.items ++ text_of (begun_lines begun.now)) }
 {
     for (i, attempts) in begun.iter().enumerate() {
         push_begun(text, i, *attempts)?;
@@ -59,7 +65,8 @@ fn push_all_begun(text: &mut Vec<u8>, begun: &[u8]) -> Result<(), NoMemory>
 
 // Writes the lines of the reducers.
 fn push_histories(text: &mut Vec<u8>, histories: &[History]) -> Result<(), NoMemory>
-    ensures { OnOk result (text.new.items ≡ text.old.items ++ text_of (all_histories (in_order histories.now))) }
+    ensures text { OnOk result (text.new.items ≡ text.old.items ++ text_of (all_histories (in_order histories.now))) }
+    ensures numbers { OnOk result (All (All IsEvent) (in_order histories.now)) }
 {
     for (p, history) in histories.iter().enumerate() {
         push_history(text, p, history.events())?;
