@@ -1,9 +1,9 @@
 -- A trace's text, as it is written.
-use Rattle.std.proofs.Common.{◌≡◌, ℕ, ◌+◌, ◌<◌, ◌≤◌, List, [], ◌∷◌, ◌++◌, length, get_or, drop, take, refl, sym, ap, ◌∙◌, append_assoc, append-nil, add-one, arith, decimal}
+use Rattle.std.proofs.Common.{◌≡◌, ℕ, ◌+◌, ◌<◌, ◌≤◌, List, [], ◌∷◌, ◌++◌, length, reverse, get_or, drop, take, refl, sym, ap, ◌∙◌, append_assoc, append-nil, add-one, arith, decimal}
 use Rattle.std.specs.Prelude.{codes}
 use Rattle.std.specs.List.{flat_map, enumerate_from}
 use Rattle.std.proofs.Math.Seq.{drop-cons}
-use Rattle.std.proofs.lemmas.List.{drop_all, flat_map_more, take_all, take_more}
+use Rattle.std.proofs.lemmas.List.{drop_all, get_or-map, flat_map_more, take_all, take_more}
 use Rattle.std.proofs.lemmas.List.Folds.{flat_map-map}
 use Rattle.std.proofs.lemmas.Grind.{flat_map-append}
 use Rattle.hop_event.specs.declared.event.Event.{Event}
@@ -71,3 +71,6 @@ trace_written name begun histories t0 t1 t2 t3 t4 h i j k l =
 pub length-in_order : (histories : List HistoryValue) → length (in_order histories) ≡ length histories
 length-in_order [] = refl
 length-in_order (h ∷ histories) = omega (arith, length-in_order histories)
+
+pub in_order-at : (histories : List HistoryValue) (p : ℕ) (h : HistoryValue) → p < length histories → h ≡ get_or histories p h → get_or (in_order histories) p [] ≡ reverse h.events
+in_order-at histories p h l e = get_or-map (λ (h : HistoryValue). reverse h.events) histories p h [] l ∙ ap (λ (h : HistoryValue). reverse h.events) (sym e)

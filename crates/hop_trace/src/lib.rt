@@ -3,6 +3,8 @@
 
 pub mod laws;
 mod lines;
+pub mod totals;
 pub mod trace;
 
+pub use totals::{Way, attempts_in_all, events_in_all, kept_in_all};
 pub use trace::trace_text;
