@@ -6,8 +6,8 @@ use Rattle.std.proofs.lemmas.Bool.{true≢false}
 use Rattle.std.proofs.lemmas.List.Elements.{recursion_from_All}
 use Rattle.hop_event.specs.declared.event.Event.{Event}
 use Rattle.hop_event.specs.declared.event.Event.TheVariants.{Arrive, Ignore, Won, Revoked, Restart, Finish}
-use Rattle.hop_trace.specs.Trace.{event_line, begun_line, history_lines, begun_lines, all_histories, last_line, trace_lines}
-use Rattle.hop_trace.specs.Told.{IsNumber, IsEvent, IsTold, TellsAll}
+use Rattle.hop_trace.specs.Trace.{event_line, begun_line, history_lines, begun_lines, all_histories, last_line, trace_lines, trace_of}
+use Rattle.hop_trace.specs.Told.{IsNumber, IsEvent, IsTold, TellsOnly}
 use Rattle.hop_trace.proofs.TextLaws.{IsLine, number_word, via_word, name_word, lines_told}
 use Rattle.hop_trace.proofs.EventLaws.{first_is, number_told, event_told, no_event_reducer, no_event_last}
 
@@ -118,7 +118,7 @@ behind_begun : (histories : List (List Event)) → NoBegun (all_histories histor
 behind_begun [] = λ x e. true≢false (ap (first_is (codes "end")) e)
 behind_begun (events ∷ histories) = λ x e. true≢false (ap (first_is (codes "reducer")) e)
 
-pub trace_told : (name begun : List ℕ) (histories : List (List Event)) → IsTold name begun histories → TellsAll name begun histories
+pub trace_told : (name begun : List ℕ) (histories : List (List Event)) → IsTold name begun histories → TellsOnly (trace_of name begun histories) name begun histories
 trace_told name begun histories h name' begun' histories' k e =
     let lines = lines_told (trace_lines name' begun' histories') (trace_lines name begun histories) (trace_is_lines name' begun' histories' k) (trace_is_lines name begun histories h) e in
     let named : name' ≡ name = cc in

@@ -41,8 +41,8 @@ pub record IsTold (name begun : List ℕ) (histories : List (List Event)) : Type
   pub reducers : IsNumber (length histories)
   pub events : All (All IsEvent) histories
 
--- The trace of these is the trace of nothing else.
-abbrev pub TellsAll : List ℕ → List ℕ → List (List Event) → Type 0
-TellsAll name begun histories =
-    (name' begun' : List ℕ) (histories' : List (List Event)) → IsTold name' begun' histories' → trace_of name' begun' histories' ≡ trace_of name begun histories
+-- The text is the trace of these and of nothing else.
+abbrev pub TellsOnly : List ℕ → List ℕ → List ℕ → List (List Event) → Type 0
+TellsOnly text name begun histories =
+    (name' begun' : List ℕ) (histories' : List (List Event)) → IsTold name' begun' histories' → trace_of name' begun' histories' ≡ text
     → (name' ≡ name) × (begun' ≡ begun) × (histories' ≡ histories)

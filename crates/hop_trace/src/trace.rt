@@ -2,7 +2,7 @@
 ghost use Rattle.std.specs.Prelude.{◌≡◌, ◌++◌, IfOk, OnOk, All};
 ghost use Rattle.std.specs.List.{flat_map, enumerate_from};
 ghost use Rattle.hop_laws.specs.Laws.{IsName};
-ghost use Rattle.hop_trace.specs.Told.{IsEvent, IsTold, TellsAll};
+ghost use Rattle.hop_trace.specs.Told.{IsEvent, IsTold, TellsOnly};
 ghost use Rattle.hop_trace.specs.Trace.{in_order, trace_of, first_lines, begun_lines, all_histories, text_of};
 
 use crate::lines::{push_begun, push_history, push_last};
@@ -23,10 +23,12 @@ pub fn trace_text(
     histories: &[History],
 ) -> Result<Text, NoMemory>
     ensures text { IfOk result (λ text. text ≡ trace_of name.now begun.now (in_order histories.now)) }
+
+    // The numbers are small enough to be told.
     ensures told { IfOk result (λ text. IsName name.now → IsTold name.now begun.now (in_order histories.now)) }
 
-    // It is the trace of nothing else.
-    ensures tells { IfOk result (λ text. IsName name.now → TellsAll name.now begun.now (in_order histories.now)) }
+    // The text is the trace of nothing else.
+    ensures tells { IfOk result (λ text. IsName name.now → TellsOnly text name.now begun.now (in_order histories.now)) }
 {
     let mut text = Vec::new(alloc);
     push_first(&mut text, name.as_slice(), begun.len(), histories.len())?;

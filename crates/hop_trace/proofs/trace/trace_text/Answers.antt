@@ -20,8 +20,9 @@ returns c =
       reducers = omega (arith, many, reducers);
       events = c.in_ok-push_histories.ensures.numbers;
     } in
+    let written = c.from_vec.ensures ∙ trace_written c.args.name.now c.args.begun.now (in_order c.args.histories.now) c.new-text.result.items c.push_first.new.text.items c.push_all_begun.new.text.items c.push_histories.new.text.items c.extend_from_slice.new.self.items c.new-text.ensures.items first c.in_ok-push_all_begun.ensures c.in_ok-push_histories.ensures.text c.in_ok-extend_from_slice.ensures.items in
     record {
-      text = c.from_vec.ensures ∙ trace_written c.args.name.now c.args.begun.now (in_order c.args.histories.now) c.new-text.result.items c.push_first.new.text.items c.push_all_begun.new.text.items c.push_histories.new.text.items c.extend_from_slice.new.self.items c.new-text.ensures.items first c.in_ok-push_all_begun.ensures c.in_ok-push_histories.ensures.text c.in_ok-extend_from_slice.ensures.items;
+      text = written;
       told = told;
-      tells = λ named. trace_told c.args.name.now c.args.begun.now (in_order c.args.histories.now) (told named);
+      tells = λ named name' begun' histories' k e. trace_told c.args.name.now c.args.begun.now (in_order c.args.histories.now) (told named) name' begun' histories' k (e ∙ written);
     }
