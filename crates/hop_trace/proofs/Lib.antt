@@ -1,0 +1,4 @@
+pub mod EventLaws
+pub mod TellingLaws
+pub mod TextLaws
+pub mod WritingLaws
