@@ -10,9 +10,9 @@ use Rattle.hop_event.specs.declared.event.Event.TheVariants.{Arrive, Ignore, Won
 use Rattle.hop_event.specs.declared.event.Via.{Via}
 use Rattle.hop_event.specs.declared.event.Via.TheVariants.{Lane, Late, Pull}
 use Rattle.hop_trace.specs.Trace.{via_text, event_line, number_line, last_line}
-use Rattle.hop_trace.specs.Told.{IsNumber, IsRange, IsVia, IsEvent}
+use Rattle.hop_trace.specs.Told.{IsToldNumber, IsToldRange, IsToldVia, IsToldEvent}
 
-pub number_told : (m n : ℕ) → IsNumber m → IsNumber n → decimal m ≡ decimal n → m ≡ n
+pub number_told : (m n : ℕ) → IsToldNumber m → IsToldNumber n → decimal m ≡ decimal n → m ≡ n
 number_told m n h k e = decimal_injective m n h k e
 
 abbrev begins_with : ℕ → List ℕ → Bool
@@ -24,7 +24,7 @@ abbrev pub first_is : List ℕ → List (List ℕ) → Bool
 first_is word [] = false
 first_is word (first ∷ words) = bytes_eq first word
 
-via_told : (v u : Via) → IsVia v → IsVia u → via_text v ≡ via_text u → v ≡ u
+via_told : (v u : Via) → IsToldVia v → IsToldVia u → via_text v ≡ via_text u → v ≡ u
 via_told (Lane w) (Lane x) h k e = let digits : decimal w ≡ decimal x = cc in ap Lane (number_told w x h k digits)
 via_told (Lane w) (Late x) h k e = absurd (true≢false (ap (begins_with 119) e))
 via_told (Lane w) Pull h k e = absurd (true≢false (ap (begins_with 119) e))
@@ -38,14 +38,14 @@ via_told Pull Pull h k e = refl
 abbrev range_of : ℕ → ℕ → ℕ → ℕ → Part
 range_of split attempt from to = record { split = split; attempt = attempt; from = from; to = to }
 
-range_told : (p q : Part) → IsRange p → IsRange q → decimal p.split ≡ decimal q.split → decimal p.attempt ≡ decimal q.attempt → decimal p.from ≡ decimal q.from → decimal p.to ≡ decimal q.to → p ≡ q
+range_told : (p q : Part) → IsToldRange p → IsToldRange q → decimal p.split ≡ decimal q.split → decimal p.attempt ≡ decimal q.attempt → decimal p.from ≡ decimal q.from → decimal p.to ≡ decimal q.to → p ≡ q
 range_told p q h k s a f t =
     ap (λ n. range_of n p.attempt p.from p.to) (number_told p.split q.split h.split k.split s)
     ∙ ap (λ n. range_of q.split n p.from p.to) (number_told p.attempt q.attempt h.attempt k.attempt a)
     ∙ ap (λ n. range_of q.split q.attempt n p.to) (number_told p.from q.from h.from k.from f)
     ∙ ap (λ n. range_of q.split q.attempt q.from n) (number_told p.to q.to h.to k.to t)
 
-pub event_told : (e f : Event) → IsEvent e → IsEvent f → event_line e ≡ event_line f → e ≡ f
+pub event_told : (e f : Event) → IsToldEvent e → IsToldEvent f → event_line e ≡ event_line f → e ≡ f
 event_told (Arrive part via) (Arrive part' via') h k e =
     let s : decimal part.split ≡ decimal part'.split = cc in
     let a : decimal part.attempt ≡ decimal part'.attempt = cc in

@@ -11,7 +11,7 @@ use Rattle.hop_laws.specs.Laws.{IsName}
 use Rattle.hop_event.specs.declared.event.Via.{Via}
 use Rattle.hop_event.specs.declared.event.Via.TheVariants.{Lane, Late, Pull}
 use Rattle.hop_trace.specs.Trace.{via_text, line_text, text_of}
-use Rattle.hop_trace.specs.Told.{IsNumber, IsVia}
+use Rattle.hop_trace.specs.Told.{IsToldNumber, IsToldVia}
 
 -- a byte of a word
 abbrev pub is_inner : ℕ → Bool
@@ -32,10 +32,10 @@ digits_word : (ds : List ℕ) → list_all is_ascii_digit ds ≡ true → IsWord
 digits_word [] h = refl
 digits_word (d ∷ ds) h = ap (λ b. b && list_all is_inner ds) (digit_inner d (first_passes is_ascii_digit d ds h)) ∙ digits_word ds (rest_passes is_ascii_digit d ds h)
 
-pub number_word : (n : ℕ) → IsNumber n → IsWord (decimal n)
+pub number_word : (n : ℕ) → IsToldNumber n → IsWord (decimal n)
 number_word n h = digits_word (decimal n) (decimal_digits n h)
 
-pub via_word : (v : Via) → IsVia v → IsWord (via_text v)
+pub via_word : (v : Via) → IsToldVia v → IsWord (via_text v)
 via_word (Lane w) h = number_word w h
 via_word (Late w) h = number_word w h
 via_word Pull h = refl

@@ -9,39 +9,39 @@ use Rattle.hop_laws.specs.Laws.{IsName}
 use Rattle.hop_trace.specs.Trace.{trace_of}
 
 -- a number of 64 bits
-abbrev pub IsNumber : ℕ → Type 0
-IsNumber n = n < 2 ^ 64
+abbrev pub IsToldNumber : ℕ → Type 0
+IsToldNumber n = n < 2 ^ 64
 
 -- each number of a range is of 64 bits
-pub record IsRange (part : Part) : Type 0 where
-  pub split : IsNumber part.split
-  pub attempt : IsNumber part.attempt
-  pub from : IsNumber part.from
-  pub to : IsNumber part.to
+pub record IsToldRange (part : Part) : Type 0 where
+  pub split : IsToldNumber part.split
+  pub attempt : IsToldNumber part.attempt
+  pub from : IsToldNumber part.from
+  pub to : IsToldNumber part.to
 
-abbrev pub IsVia : Via → Type 0
-IsVia (Lane w) = IsNumber w
-IsVia (Late w) = IsNumber w
-IsVia Pull = Unit {0}
+abbrev pub IsToldVia : Via → Type 0
+IsToldVia (Lane w) = IsToldNumber w
+IsToldVia (Late w) = IsToldNumber w
+IsToldVia Pull = Unit {0}
 
 -- each number of an event is of 64 bits
-abbrev pub IsEvent : Event → Type 0
-IsEvent (Arrive part via) = IsRange part × IsVia via
-IsEvent (Ignore part via have) = IsRange part × IsVia via × IsNumber have
-IsEvent (Won i a) = IsNumber i × IsNumber a
-IsEvent (Revoked i a) = IsNumber i × IsNumber a
-IsEvent Restart = Unit {0}
-IsEvent Finish = Unit {0}
+abbrev pub IsToldEvent : Event → Type 0
+IsToldEvent (Arrive part via) = IsToldRange part × IsToldVia via
+IsToldEvent (Ignore part via have) = IsToldRange part × IsToldVia via × IsToldNumber have
+IsToldEvent (Won i a) = IsToldNumber i × IsToldNumber a
+IsToldEvent (Revoked i a) = IsToldNumber i × IsToldNumber a
+IsToldEvent Restart = Unit {0}
+IsToldEvent Finish = Unit {0}
 
--- a job's name, and numbers of 64 bits
+-- a job's name, and numbers of 64 bits: what a trace may tell
 pub record IsTold (name begun : List ℕ) (histories : List (List Event)) : Type 0 where
   pub named : IsName name
-  pub splits : IsNumber (length begun)
-  pub numbers : All IsNumber begun
-  pub reducers : IsNumber (length histories)
-  pub events : All (All IsEvent) histories
+  pub splits : IsToldNumber (length begun)
+  pub numbers : All IsToldNumber begun
+  pub reducers : IsToldNumber (length histories)
+  pub events : All (All IsToldEvent) histories
 
--- The text is the trace of these and of nothing else.
+-- The text is the trace of nothing but these.
 abbrev pub TellsOnly : List ℕ → List ℕ → List ℕ → List (List Event) → Type 0
 TellsOnly text name begun histories =
     (name' begun' : List ℕ) (histories' : List (List Event)) → IsTold name' begun' histories' → trace_of name' begun' histories' ≡ text

@@ -1,6 +1,6 @@
 //! The lines of a trace, as they are written.
 ghost use Rattle.std.specs.Prelude.{◌≡◌, ◌++◌, [], ◌∷◌, OnOk, All, decimal};
-ghost use Rattle.hop_trace.specs.Told.{IsEvent};
+ghost use Rattle.hop_trace.specs.Told.{IsToldEvent};
 ghost use Rattle.hop_trace.specs.Trace.{via_text, event_line, begun_line, history_lines, line_text, text_of};
 
 use hop_base::{NoMemory, Part};
@@ -38,7 +38,7 @@ pub(crate) fn push_begun(text: &mut Vec<u8>, i: usize, attempts: u8) -> Result<(
 /// Writes the lines of reducer `p`.
 pub(crate) fn push_history(text: &mut Vec<u8>, p: usize, events: &[Event]) -> Result<(), NoMemory>
     ensures text { OnOk result (text.new.items ≡ text.old.items ++ text_of (history_lines (p, events.now))) }
-    ensures numbers { OnOk result (All IsEvent events.now) }
+    ensures numbers { OnOk result (All IsToldEvent events.now) }
 {
     push_last(text, b"reducer ", p as u64)?;
     for event in events {
@@ -50,7 +50,7 @@ pub(crate) fn push_history(text: &mut Vec<u8>, p: usize, events: &[Event]) -> Re
 // Writes the line of an event.
 fn push_event(text: &mut Vec<u8>, event: Event) -> Result<(), NoMemory>
     ensures text { OnOk result (text.new.items ≡ text.old.items ++ line_text (event_line event)) }
-    ensures numbers { IsEvent event }
+    ensures numbers { IsToldEvent event }
 {
     match event {
         Event::Arrive { part, via } => {

@@ -26,7 +26,7 @@ pub fn attempts_in_all(begun: &[u8]) -> u64
     total
 }
 
-/// How many events at most eight reducers recorded.
+/// How many events there are in these histories, of at most eight reducers.
 pub fn events_in_all(histories: &[History]) -> u64
     requires few { length histories.now ≤ 8 }
     ensures { result ≡ events_in_all (in_order histories.now) }
@@ -38,7 +38,7 @@ pub fn events_in_all(histories: &[History]) -> u64
     total
 }
 
-/// How many ranges came so and were kept, at at most eight reducers.
+/// How many ranges came this way and were kept, by these histories, of at most eight reducers.
 pub fn kept_in_all(way: Way, histories: &[History]) -> u64
     requires few { length histories.now ≤ 8 }
     ensures { result ≡ kept_in_all way (in_order histories.now) }
@@ -58,7 +58,7 @@ fn number_of(events: &[Event]) -> u64
     events.len() as u64
 }
 
-// How many ranges came so and were kept.
+// How many ranges came this way and were kept.
 fn kept_in(way: Way, events: &[Event]) -> u64
     ensures value { result ≡ count_by (is_kept way) events.now }
     ensures few { result < 2 ^ 60 }
@@ -72,7 +72,7 @@ fn kept_in(way: Way, events: &[Event]) -> u64
     n
 }
 
-// Whether the event is a range that came so and was kept.
+// Whether the event is a range that came this way and was kept.
 fn is_kept(way: Way, event: Event) -> bool
     ensures { result ≡ is_kept way event }
 {

@@ -2,7 +2,7 @@
 ghost use Rattle.std.specs.Prelude.{◌≡◌, ◌++◌, IfOk, OnOk, All};
 ghost use Rattle.std.specs.List.{flat_map, enumerate_from};
 ghost use Rattle.hop_laws.specs.Laws.{IsName};
-ghost use Rattle.hop_trace.specs.Told.{IsEvent, IsTold, TellsOnly};
+ghost use Rattle.hop_trace.specs.Told.{IsToldEvent, IsTold, TellsOnly};
 ghost use Rattle.hop_trace.specs.Trace.{in_order, trace_of, first_lines, begun_lines, all_histories, text_of};
 
 use crate::lines::{push_begun, push_history, push_last};
@@ -24,7 +24,7 @@ pub fn trace_text(
 ) -> Result<Text, NoMemory>
     ensures text { IfOk result (λ text. text ≡ trace_of name.now begun.now (in_order histories.now)) }
 
-    // The numbers are small enough to be told.
+    // All this is what a trace may tell.
     ensures told { IfOk result (λ text. IsName name.now → IsTold name.now begun.now (in_order histories.now)) }
 
     // The text is the trace of nothing else.
@@ -68,7 +68,7 @@ fn push_all_begun(text: &mut Vec<u8>, begun: &[u8]) -> Result<(), NoMemory>
 // Writes the lines of the reducers.
 fn push_histories(text: &mut Vec<u8>, histories: &[History]) -> Result<(), NoMemory>
     ensures text { OnOk result (text.new.items ≡ text.old.items ++ text_of (all_histories (in_order histories.now))) }
-    ensures numbers { OnOk result (All (All IsEvent) (in_order histories.now)) }
+    ensures numbers { OnOk result (All (All IsToldEvent) (in_order histories.now)) }
 {
     for (p, history) in histories.iter().enumerate() {
         push_history(text, p, history.events())?;

@@ -2,7 +2,7 @@ use Rattle.std.proofs.Common.{◌<◌, ◌^◌, ap, ◌∙◌, sym, length, ◌+
 use Rattle.std.proofs.lemmas.List.Elements.{All-from_get_or}
 use Rattle.hop_laws.specs.Laws.{IsName}
 use Rattle.hop_trace.specs.Trace.{in_order, first_lines, text_of}
-use Rattle.hop_trace.specs.Told.{IsNumber, IsTold}
+use Rattle.hop_trace.specs.Told.{IsToldNumber, IsTold}
 use Rattle.hop_trace.proofs.WritingLaws.{trace_written, length-in_order}
 use Rattle.hop_trace.proofs.TellingLaws.{trace_told}
 use Rattle.hop_trace.proofs.trace.trace_text.Goals as goal
@@ -16,7 +16,7 @@ returns c =
     let told : IsName c.args.name.now → IsTold c.args.name.now c.args.begun.now (in_order c.args.histories.now) = λ named. record {
       named = named;
       splits = splits;
-      numbers = All-from_get_or IsNumber c.args.begun.now 0 (λ i l. let fits = c.type_inv.begun i in omega arith);
+      numbers = All-from_get_or IsToldNumber c.args.begun.now 0 (λ i l. let fits = c.type_inv.begun i in omega arith);
       reducers = omega (arith, many, reducers);
       events = c.in_ok-push_histories.ensures.numbers;
     } in
