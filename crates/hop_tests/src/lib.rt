@@ -30,6 +30,8 @@ mod spill;
 #[cfg(test)]
 mod top;
 #[cfg(test)]
+mod trace;
+#[cfg(test)]
 mod vault;
 #[cfg(test)]
 mod words;
