@@ -1,6 +1,7 @@
 -- A turn of a reducer of a list, while a run is settled.
-use Rattle.std.proofs.Common.{◌≡◌, ℕ, ◌+◌, ◌<◌, ◌⊎◌, Bool, true, false, List, length, refl, sym, ap, ◌∙◌, subst, inl, inr, ⊎_elim, cond, arith, Some, Ok, Err, Result, slice_set}
+use Rattle.std.proofs.Common.{◌≡◌, ℕ, ◌+◌, ◌<◌, ◌≤◌, ◌⊎◌, nat_lt, Bool, true, false, List, length, refl, sym, ap, ◌∙◌, subst, inl, inr, ⊎_elim, cond, arith, Some, Ok, Err, Result, slice_set}
 use Rattle.std.specs.List.{slice_get}
+use Rattle.std.proofs.lemmas.Bool.Decides.{nat_tests}
 use Rattle.std.proofs.lemmas.List.{length-set}
 use Rattle.hop_machine.specs.declared.words.Turn.{Turn}
 use Rattle.hop_machine.specs.declared.words.Turn.TheVariants as said
@@ -10,13 +11,14 @@ use Rattle.hop_machine.specs.actors.MapperTurns.{Mapper}
 use Rattle.hop_machine.specs.actors.ReducerTurns.{Reducer, Writer, reducer_turn}
 use Rattle.hop_machine.specs.home.Conditions.{HasReducer, HasAll}
 use Rattle.hop_machine.specs.home.ReducerHome.{NoneDue}
-use Rattle.hop_machine.specs.play.Play.{World, Actors, Place, Turned, Went, once_idle, Halted}
+use Rattle.hop_machine.specs.play.Play.{World, Actors, Place, Turned, Went, once_idle, Draining, Passing, Halted}
 use Rattle.hop_machine.specs.run.AllHome.{Ready, AllLate, IsAtPlace}
 use Rattle.hop_machine.specs.settling.Settling.{DrainsLate, Drained, BoundsLists, drain_left}
 use Rattle.hop_machine.proofs.step.Owners.{Runs-only, Runs-ends}
 use Rattle.hop_machine.proofs.actors.OwnTurns.{own_reducer}
 use Rattle.hop_machine.proofs.play.Plays.{went_both}
-use Rattle.hop_machine.proofs.play.Going.{reducer_did, drains, empties}
+use Rattle.hop_machine.proofs.play.Going.{reducer_did, drains, empties, drains-over}
+use Rattle.hop_machine.proofs.run.Places.{went_at_home}
 use Rattle.hop_machine.proofs.home.OfRun.{reducer-late}
 use Rattle.hop_machine.proofs.settling.Drains.{drained-turn, drained-idle}
 use Rattle.hop_machine.proofs.settling.ReducerEnds.{reducer-falls}
@@ -26,8 +28,11 @@ use Rattle.hop_actors.specs.declared.fault.Fault.{Fault}
 use Rattle.hop_actors.specs.declared.fault.Fault.TheVariants as fault
 use Rattle.hop_actors.specs.Acting.{said_turn}
 use Rattle.hop_settle.specs.Crews.{MayReduceAt, Reduced, actors_of, world_of}
-use Rattle.hop_settle.specs.Drains.{Stage, AfterPass, AtLast, drains_at, DrainsHere}
+use Rattle.hop_settle.specs.Drains.{Stage, AfterPass, AtLast, drains_at, after_drains, DrainsHere}
 use Rattle.hop_settle.specs.Stops.{place_after, idle_or_fault}
+
+pub not_below : (w n : ℕ) → n ≤ w → nat_lt w n ≡ false
+not_below w n h = grind (arith, nat_tests)
 
 -- # At home
 
@@ -77,6 +82,23 @@ fault_is answer.Worked f h only = cc
 fault_is answer.Idle f h only = cc
 fault_is answer.Ended f h only = cc
 
+-- a turn that was neither idle nor failed left less to do
+pub goes_on : (t : Answer) (b : Bool) (L : Type 0) → idle_or_fault t ≡ Ok b → b ≡ false → (said_turn t ≡ said.Stopped) ⊎ ((said_turn t ≡ said.Idle) ⊎ L) → L
+goes_on t b L h off (inr (inr l)) = l
+goes_on answer.Idle b L h off (inr (inl l)) = let n : true ≡ false = ok_is true b h ∙ off in cc
+goes_on answer.Worked b L h off (inr (inl l)) = cc
+goes_on answer.Ended b L h off (inr (inl l)) = cc
+goes_on (answer.Failed f) b L h off (inr (inl l)) = cc
+goes_on answer.Worked b L h off (inl l) = cc
+goes_on answer.Idle b L h off (inl l) = cc
+goes_on answer.Ended b L h off (inl l) = cc
+goes_on (answer.Failed f) b L h off (inl l) = cc
+
+pub smaller : (now was : Bool) (x y : ℕ) → was ≡ false → (now ≡ false → x < y) → cond now 0 (x + 1) < cond was 0 (y + 1)
+smaller now true x y h k = cc
+smaller true false x y h k = omega arith
+smaller false false x y h k = let l = k refl in omega (arith, l)
+
 pub halts : (f : Fault) (go : Place) → f ≡ fault.NoMemory → place_after {A = Unit {0}} (Err f) go ≡ Halted
 halts f go h = (λ i. place_after {A = Unit {0}} (Err (h i)) go)
 
@@ -112,3 +134,35 @@ module _ (e : Bool) (p : ℕ) (rs : List Reducer) (a : Deeds) (ss : List Reducer
 
     pub red_drained : (c : Deeds) → Drained p c a → Drained p c b × (t ≡ said.Idle → Drained (p + 1) c b)
     red_drained c d = (drained-turn e p z.before c a b (z.after, t) own.0 z.runs d, λ i. drained-idle e p z.before c a b (z.after, t) own.0 z.runs d own.1 i)
+
+-- # So far
+
+module _ (e : Bool) (p q : ℕ) (rs : List Reducer) (a : Deeds) (ss : List Reducer) (b : Deeds) (ms : List Mapper) (x : Writer) where
+  -- the reducer is not idle yet
+  pub still_here : (idle : Bool) → idle ≡ false → (s : Stage) → Went e (drains_at s p, world_of ms rs x a) (cond idle (drains_at s (q + 1)) (drains_at s q), world_of ms ss x b)
+      → Went e (drains_at s p, world_of ms rs x a) (drains_at s q, world_of ms ss x b)
+  still_here idle off s w = subst (λ (t : Bool). Went e (drains_at s p, world_of ms rs x a) (cond t (drains_at s (q + 1)) (drains_at s q), world_of ms ss x b)) off w
+
+  -- all are at home where the run is
+  pub home_here : (h : DrainsHere p (actors_of ms rs x) a) → ((s : Stage) → Went e (drains_at s p, world_of ms rs x a) (drains_at s q, world_of ms ss x b)) → DrainsHere q (actors_of ms ss x) b
+  home_here h w = record { stage = h.stage; home = went_at_home e (drains_at h.stage p, world_of ms rs x a) (drains_at h.stage q, world_of ms ss x b) (w h.stage) h.home }
+
+pub ready_so : (p : ℕ) (x : Actors) (d : Deeds) → DrainsHere p x d → Ready x d × AllLate x
+ready_so p x d h = (ready_here h.stage p x d h.home, late_here h.stage p x d h.home)
+
+-- behind the last reducer
+pub drains_done : (e : Bool) (rs : List Reducer) (a : Deeds) (ss : List Reducer) (b : Deeds) (ms : List Mapper) (x : Writer) (n : ℕ) → length ss ≡ n → (s : Stage)
+    → Went e (drains_at s 0, world_of ms rs x a) (drains_at s n, world_of ms ss x b) → Went e (drains_at s 0, world_of ms rs x a) (after_drains s n, world_of ms ss x b)
+drains_done e rs a ss b ms x n many (AfterPass ended) w =
+    went_both e (Draining 0 ended, world_of ms rs x a) (Draining n ended, world_of ms ss x b) (Passing ended, world_of ms ss x b) w
+    (drains-over e n ended (world_of ms ss x b) (not_below n (length ss) (omega (arith, many))))
+drains_done e rs a ss b ms x n many AtLast w = w
+
+-- a fault ends the run at one place, wherever it would have gone on
+pub fault_place : (f : Fault) (go other : Place) → place_after {A = Unit {0}} (Err f) go ≡ place_after {A = Unit {0}} (Err f) other
+fault_place (fault.SpentAt split) go other = refl
+fault_place fault.FolderFailed go other = refl
+fault_place (fault.SpillFailed worker) go other = refl
+fault_place (fault.SpillDamaged worker at kept found) go other = refl
+fault_place (fault.SpillCollides worker at place) go other = refl
+fault_place fault.NoMemory go other = refl
