@@ -1,5 +1,5 @@
 -- A turn of a mapper of a list.
-use Rattle.std.proofs.Common.{◌≡◌, ℕ, ◌+◌, ◌^◌, ◌≤◌, ◌<◌, ◌⊎◌, Bool, true, false, List, length, map, refl, sym, ap, ◌∙◌, subst, inl, inr, ⊎_elim, cond, arith, Some, slice_set, slice_index_or}
+use Rattle.std.proofs.Common.{◌≡◌, ℕ, zero, suc, ◌&&◌, [], ◌∷◌, ◌+◌, ◌^◌, ◌≤◌, ◌<◌, ◌⊎◌, Bool, true, false, List, length, map, refl, sym, ap, ◌∙◌, subst, inl, inr, ⊎_elim, cond, arith, Some, slice_set, slice_index_or}
 use Rattle.std.specs.List.{slice_get}
 use Rattle.std.proofs.lemmas.List.{length-set, length-map, map-set}
 use Rattle.std.proofs.lemmas.Option.{get_or_from_slice_get}
@@ -10,7 +10,8 @@ use Rattle.hop_machine.specs.step.Steps.{Deeds, Setup, Runs, Done, and_then}
 use Rattle.hop_machine.specs.actors.MapperTurns.{Mapper, mapper_turn, open_turn, with_end, counted, is_ended}
 use Rattle.hop_machine.specs.actors.ReducerTurns.{Reducer, Writer}
 use Rattle.hop_machine.specs.home.Conditions.{HasMapper, HasAll}
-use Rattle.hop_machine.specs.play.Play.{World, Actors, Place, Mapping, Turned, Went, has_ended, unless_spent}
+use Rattle.hop_machine.specs.home.MapperHome.{has_failed}
+use Rattle.hop_machine.specs.play.Play.{World, Actors, Place, Mapping, Turned, Went, has_ended, unless_spent, all_true}
 use Rattle.hop_machine.specs.run.AllHome.{Ready}
 use Rattle.hop_machine.specs.settling.Settling.{AreOfRun, MapFell, PassFell, flag_at}
 use Rattle.hop_machine.proofs.step.Programs.{Runs-parted}
@@ -92,3 +93,36 @@ module _ (e : Bool) (w : ℕ) (ms : List Mapper) (a : Deeds) (ns : List Mapper) 
       let m : MapFell w ms (flags_of ms) a ns (slice_set (flags_of ms) w (is_ended t)) b = subst (λ (l : List Mapper). MapFell w ms (flags_of ms) a l (slice_set (flags_of ms) w (is_ended t)) b) (sym z.now) k in
       subst (λ (fl : List Bool). PassFell (w + 1) os (flags_of os) c ns fl b) (sym map_flags) (pass-turn w (is_ended t) os ms ns (flags_of os) (flags_of ms) c a b l p m)))
       (map-fell e w ms (flags_of ms) z.before a b (z.after, t) z.here still (length-map ms has_ended) ready z.runs)
+
+-- # A pass
+
+pub turns_begin : (n : ℕ) (ms : List Mapper) → TurnsBelow n ms → TurnsFrom 0 n ms
+turns_begin n ms h k m is = let l = h k m is in (omega (arith, l), λ z. l)
+
+pub turns_end : (w n : ℕ) (ms : List Mapper) → TurnsFrom w n ms → TurnsBelow (n + 1) ms
+turns_end w n ms h k m is = (h k m is).0
+
+-- a turn after which the mapper goes on did not stop
+pub went_not_stopped : (t : Turn) (P : Type 0) → has_failed t ≡ false → (t ≡ said.Stopped) ⊎ P → P
+went_not_stopped t P on (inr p) = p
+went_not_stopped t P on (inl s) = let n : true ≡ false = sym (ap has_failed s) ∙ on in cc
+
+-- # Whether all have ended
+
+pub all_so : (bs : List Bool) → ((k : ℕ) → k < length bs → flag_at bs k ≡ true) → all_true bs ≡ true
+all_so [] h = refl
+all_so (b ∷ bs) h = (λ i. h 0 (omega arith) i && all_true bs) ∙ all_so bs (λ k l. h (suc k) (omega (arith, l)))
+
+and_false : (b : Bool) → (b && false) ≡ false
+and_false true = refl
+and_false false = refl
+
+pub one_open : (bs : List Bool) (k : ℕ) → k < length bs → flag_at bs k ≡ false → all_true bs ≡ false
+one_open [] k l h = absurd (omega arith)
+one_open (b ∷ bs) zero l h = (λ i. h i && all_true bs)
+one_open (b ∷ bs) (suc k) l h = let r = one_open bs k (omega arith) h in (λ i. b && r i) ∙ and_false b
+
+-- a pass leaves less to do, the first one by its mark
+pub falls : (first : Bool) (x y : ℕ) → x ≤ y → (first ≡ false → x < y) → x + 0 < y + cond first 1 0
+falls true x y le less = omega (arith, le)
+falls false x y le less = let l = less refl in omega (arith, l)

@@ -70,8 +70,8 @@ pub fn map_all<N: RunName, E: Reach<N>, M: Store<N, E>>(
 pub(crate) fn all_ended<N: RunName, E: Reach<N>, M: Store<N, E>>(mappers: &Vec<M>) -> bool
     ensures { result ≡ all_true (flags_of (map M.mapper mappers.now.items)) }
 {
-    for mapper in mappers.iter() {
-        if !mapper.has_ended() {
+    for w in 0..mappers.len() {
+        if !mappers[w].has_ended() {
             return false;
         }
     }
