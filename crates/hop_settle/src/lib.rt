@@ -1,4 +1,5 @@
 //! What a coordinator does with the actors of a run, over any ends: the turns of a turn list, catching up, and settling, to the end of the run.
 #![tactic(auto)]
 
+mod pulling;
 mod turns;

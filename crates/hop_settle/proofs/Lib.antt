@@ -1,0 +1,4 @@
+pub mod KeeperLaws
+pub mod Placing
+pub mod PullLaws
+pub mod Results
