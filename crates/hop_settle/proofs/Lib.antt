@@ -1,5 +1,13 @@
 pub mod AnswerLaws
+pub mod Bounds
 pub mod DrainLaws
+pub mod KeeperLaws
+pub mod LackLaws
 pub mod Lists
 pub mod PassLaws
+pub mod Placing
+pub mod PullLaws
+pub mod Results
+pub mod SplitLaws
 pub mod TurnLaws
+pub mod WriteLaws

@@ -2,11 +2,16 @@
 #![tactic(auto)]
 
 mod drains;
+mod lacking_laws;
 mod meets;
 mod passes;
+mod pulling;
+mod pulls;
 mod settling;
 mod turns;
+mod writing;
 
 pub use drains::drain_all;
 pub use passes::map_all;
 pub use turns::{map_turn, reduce_turn, write_turn};
+pub use writing::write_all;
