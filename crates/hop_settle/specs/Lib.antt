@@ -1,3 +1,4 @@
+pub mod CaughtUp
 pub mod Crews
 pub mod Pulled
 pub mod Stops
