@@ -1,6 +1,12 @@
+pub mod AnswerLaws
 pub mod CatchLaws
+pub mod DrainLaws
 pub mod KeeperLaws
+pub mod Lists
+pub mod PassLaws
 pub mod Placing
+pub mod PlayLaws
 pub mod PullLaws
 pub mod Results
 pub mod RowLaws
+pub mod TurnLaws

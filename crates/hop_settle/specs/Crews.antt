@@ -1,11 +1,12 @@
 -- The actors that a coordinator has in its lists, as the machine sees them, and one turn of each kind.
-use Rattle.std.specs.Prelude.{◌≡◌, ◌≤◌, ◌<◌, ℕ, Bool, false, List, map, Some, slice_set}
+use Rattle.std.specs.Prelude.{◌≡◌, ◌≤◌, ◌<◌, ◌+◌, ◌^◌, ℕ, Bool, false, List, map, Some, slice_set}
 use Rattle.std.specs.List.{slice_get}
 use Rattle.hop_machine.specs.declared.words.Turn.{Turn}
-use Rattle.hop_machine.specs.step.Steps.{Deeds, Runs}
+use Rattle.hop_machine.specs.step.Steps.{Setup, Deeds, Runs}
 use Rattle.hop_machine.specs.actors.MapperTurns.{Mapper, mapper_turn}
 use Rattle.hop_machine.specs.actors.ReducerTurns.{Reducer, Writer, reducer_turn}
 use Rattle.hop_machine.specs.play.Play.{Actors, World, has_ended}
+use Rattle.hop_machine.specs.settling.Settling.{pass_left}
 use Rattle.hop_actors.specs.Acting.{MayMap, MayReduce}
 
 -- all actors of a run
@@ -27,6 +28,22 @@ AreWell failed fits board ms = (k : ℕ) (m : _) → slice_get ms k ≡ Some m �
 -- none of them took so many turns
 abbrev pub TurnsBelow : ℕ → List Mapper → Type 0
 TurnsBelow n ms = (k : ℕ) (m : Mapper) → slice_get ms k ≡ Some m → m.turns < n
+
+-- The mappers from this place on took less turns than so many, and those before it at most one more: these had a turn in this pass.
+abbrev pub TurnsFrom : ℕ → ℕ → List Mapper → Type 0
+TurnsFrom w n ms = (k : ℕ) (m : Mapper) → slice_get ms k ≡ Some m → (m.turns < n + 1) × (w ≤ k → m.turns < n)
+
+-- They have turns for all that is left to do: each pass lowers it, but for the first.
+pub record TurnsLeft (ms : List Mapper) (d : Deeds) : Type 0 where
+  pub taken : ℕ
+  pub below : TurnsBelow taken ms
+  pub enough : taken + pass_left ms (flags_of ms) d + 1 ≤ 2 ^ 56
+
+-- so few workers and reducers that a byte counts them, and lanes with room
+pub record AreFew (s : Setup) : Type 0 where
+  pub workers : s.workers < 2 ^ 8
+  pub reducers : s.reducers < 2 ^ 8
+  pub room : 0 < s.capacity
 
 -- # One turn
 

@@ -16,14 +16,14 @@ abbrev pub place_after : {A : Type 0} → Result A Fault → Place → Place
 place_after (Ok x) go = go
 place_after (Err f) go = unless_spent (said_fault f) go
 
--- whether a turn was answered Ended, unless it failed
-abbrev pub ended_or_fault : Turn → Result Bool Fault
-ended_or_fault answer.Worked = Ok false
-ended_or_fault answer.Idle = Ok false
-ended_or_fault answer.Ended = Ok true
-ended_or_fault (answer.Failed f) = Err f
+-- a fault of a turn
+abbrev pub went_or_fault : Turn → Result (Unit {0}) Fault
+went_or_fault answer.Worked = Ok tt
+went_or_fault answer.Idle = Ok tt
+went_or_fault answer.Ended = Ok tt
+went_or_fault (answer.Failed f) = Err f
 
--- whether it was answered Idle
+-- whether a turn was answered Idle, unless it failed
 abbrev pub idle_or_fault : Turn → Result Bool Fault
 idle_or_fault answer.Worked = Ok false
 idle_or_fault answer.Idle = Ok true

@@ -2,5 +2,16 @@
 #![tactic(auto)]
 
 mod catching;
+mod drains;
+mod meets;
+mod opening;
+mod passes;
 mod pulling;
+mod settling;
 mod turns;
+
+pub use catching::catch_up;
+pub use drains::drain_all;
+pub use opening::open;
+pub use passes::map_all;
+pub use turns::{map_turn, reduce_turn, write_turn};

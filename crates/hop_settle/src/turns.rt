@@ -7,7 +7,7 @@ ghost use Rattle.hop_machine.specs.actors.ReducerTurns.{writer_turn};
 ghost use Rattle.hop_actors.specs.Acting.{said_turn, MayWrite};
 ghost use Rattle.hop_actors.specs.Counting.{MemoryCause, TurnCause};
 ghost use Rattle.hop_settle.specs.Crews.{AreWell, MayMapAt, MayReduceAt, Mapped, Reduced};
-ghost use Rattle.hop_settle.specs.Stops.{MapCounts, ended_or_fault, idle_or_fault};
+ghost use Rattle.hop_settle.specs.Stops.{MapCounts, idle_or_fault, went_or_fault};
 
 use hop_actors::{Actor, Fault, SnapshotWriter, Store, Taker, Turn};
 use hop_base::RunName;
@@ -59,14 +59,14 @@ pub fn write_turn<N: RunName, E: Reach<N>, W: SnapshotWriter<N, E>>(
     writer.turn(reach)
 }
 
-/// Whether a turn was answered Ended. A fault is handed on.
-pub(crate) fn has_ended(turn: Turn) -> Result<bool, Fault>
-    ensures { result ≡ ended_or_fault turn }
+/// A fault of a turn is handed on.
+pub(crate) fn went_on(turn: Turn) -> Result<(), Fault>
+    ensures { result ≡ went_or_fault turn }
 {
     match turn {
-        Turn::Worked => Ok(false),
-        Turn::Idle => Ok(false),
-        Turn::Ended => Ok(true),
+        Turn::Worked => Ok(()),
+        Turn::Idle => Ok(()),
+        Turn::Ended => Ok(()),
         Turn::Failed(fault) => Err(fault),
     }
 }
