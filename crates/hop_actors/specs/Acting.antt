@@ -95,9 +95,9 @@ abbrev pub WriteTurned : Bool → Writer → Deeds → Acting → Said → Deeds
 WriteTurned e x a (Writes y) t b = Runs e (writer_turn x) a (y, t) b
 WriteTurned e x a y t b = ⊥
 
--- a turn: the actor's program ran, and gave what it is now and the answer; a merger's turn is no step
+-- a turn: the actor's program ran, and gave what it is now and the answer; a merger's turn is no step, and leaves the value the same ends
 abbrev pub Turned : Bool → Acting → Deeds → Acting → Said → Deeds → Type 0
 Turned e (Maps m) a y t b = MapTurned e m a y t b
 Turned e (Reduces r) a y t b = ReduceTurned e r a y t b
 Turned e (Writes x) a y t b = WriteTurned e x a y t b
-Turned e Merges a y t b = (y ≡ Merges) × Learns e a b
+Turned e Merges a y t b = (y ≡ Merges) × Learns e a b × (b.ends ≡ a.ends)

@@ -45,3 +45,15 @@ kept-is ms i a place end most keeper = of (less_or_not 0 end)
 
 pub keeper-same : (ms : List Mapper) (i a p q x y : ℕ) → q ≡ p → y ≡ x → IsKeeper ms i a p x → IsKeeper ms i a q y
 keeper-same ms i a p q x y at end k = record { keeper = k.keeper; here = ap (λ j. slice_get ms j) at ∙ k.here; kept = k.kept ∙ sym end }
+
+-- the same of the attempts that they began
+pub most-begun : (ms : List Mapper) (i w : ℕ) (m : Mapper) → slice_get ms w ≡ Some m → (old new : ℕ) → old ≤ new → m.begun i ≤ new → ((k : ℕ) (n : Mapper) → k < w → slice_get ms k ≡ Some n → n.begun i ≤ old) → (k : ℕ) (n : Mapper) → k < w + 1 → slice_get ms k ≡ Some n → n.begun i ≤ new
+most-begun ms i w m is old new le l h k n below g = of (less_or_not k w)
+  where
+    of : (k < w) ⊎ (w ≤ k) → n.begun i ≤ new
+    of (inl x) = let y = h k n x g in omega (arith, y, le)
+    of (inr x) =
+        let at : k ≡ w = omega (arith, x, below) in
+        let there : slice_get ms w ≡ Some n = ap (λ j. slice_get ms j) (sym at) ∙ g in
+        let same : n ≡ m = (let both : Some n ≡ Some m = sym there ∙ is in cc) in
+        let e = ap (λ (z : Mapper). z.begun i) same in omega (arith, e, l)
