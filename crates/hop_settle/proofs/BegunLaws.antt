@@ -1,5 +1,5 @@
 -- The counted numbers are those of the attempts that were begun.
-use Rattle.std.proofs.Common.{◌≡◌, ℕ, zero, suc, max, ◌+◌, ◌≤◌, ◌<◌, List, [], ◌∷◌, length, refl, sym, ap, ◌∙◌, subst, ◌⊎◌, inl, inr, false, arith, Option, Some, None, unwrap_or, slice_index}
+use Rattle.std.proofs.Common.{◌≡◌, ℕ, zero, suc, max, ◌+◌, ◌≤◌, ◌<◌, List, [], ◌∷◌, length, refl, sym, ap, ◌∙◌, subst, ◌⊎◌, ⊎_elim, false, arith, Option, Some, None, unwrap_or, slice_index}
 use Rattle.std.specs.List.{slice_get}
 use Rattle.hop_machine.specs.step.Steps.{Setup, rules_of}
 use Rattle.hop_machine.specs.actors.MapperTurns.{Mapper}
@@ -17,11 +17,8 @@ greatest-most (suc n) c f h = let k = greatest-most n c f (λ i l. h i (omega (a
 
 greatest-least : (n w : ℕ) (f : ℕ → ℕ) → w < n → f w ≤ greatest n f
 greatest-least zero w f l = absurd (omega (arith, l))
-greatest-least (suc n) w f l = which (below w n l)
-  where
-    which : (w ≡ n) ⊎ (w < n) → f w ≤ max (greatest n f) (f n)
-    which (inr k) = let m = greatest-least n w f k in omega (arith, m)
-    which (inl k) = let e = ap f k in omega (arith, e)
+greatest-least (suc n) w f l =
+    ⊎_elim (λ (k : w ≡ n). let e = ap f k in omega (arith, e)) (λ (k : w < n). let m = greatest-least n w f k in omega (arith, m)) (below w n l)
 
 some_there : {A : Type 0} (xs : List A) (i : ℕ) → i < length xs → (y : A) × (slice_get xs i ≡ Some y)
 some_there [] i l = absurd (omega (arith, l))

@@ -29,7 +29,7 @@ told-went e p ms rs x a b l = went_learns e (p, world_of ms rs x a) (p, world_of
 -- # Where the ends of the board are gathered
 
 pub still-met : (a b : Deeds) → Gathers a b → AllMet a → AllMet b
-still-met a b g h = subst AllMet (sym g.changes) h
+still-met a b g h = subst AllMet (sym g.changes) (λ w p l k. let m = h w p l k in record { taken = m.taken; sent = m.sent; begins = m.begins })
 
 pub same-board : (a b : Deeds) → Gathers a b → b.ends.board ≡ a.ends.board
 same-board a b g = ap (λ (d : Deeds). d.ends.board) g.changes
