@@ -1,7 +1,12 @@
 pub mod AnswerLaws
+pub mod BegunLaws
+pub mod Bounds
 pub mod CatchLaws
 pub mod DrainLaws
+pub mod EndLaws
 pub mod KeeperLaws
+pub mod LackLaws
+pub mod LateLaws
 pub mod Lists
 pub mod PassLaws
 pub mod Placing
@@ -9,4 +14,6 @@ pub mod PlayLaws
 pub mod PullLaws
 pub mod Results
 pub mod RowLaws
+pub mod SplitLaws
 pub mod TurnLaws
+pub mod WriteLaws

@@ -1,6 +1,7 @@
 -- The actors that a coordinator has in its lists, as the machine sees them, and one turn of each kind.
-use Rattle.std.specs.Prelude.{◌≡◌, ◌≤◌, ◌<◌, ◌+◌, ◌^◌, ℕ, Bool, false, List, map, Some, slice_set}
+use Rattle.std.specs.Prelude.{◌≡◌, ◌≤◌, ◌<◌, ◌+◌, ◌^◌, ℕ, Bool, false, List, length, map, Some, slice_index, slice_set}
 use Rattle.std.specs.List.{slice_get}
+use Rattle.hop_base.specs.Run.{delay_of}
 use Rattle.hop_machine.specs.declared.words.Turn.{Turn}
 use Rattle.hop_machine.specs.step.Steps.{Setup, Deeds, Runs}
 use Rattle.hop_machine.specs.actors.MapperTurns.{Mapper, mapper_turn}
@@ -39,10 +40,14 @@ pub record TurnsLeft (ms : List Mapper) (d : Deeds) : Type 0 where
   pub below : TurnsBelow taken ms
   pub enough : taken + pass_left ms (flags_of ms) d + 1 ≤ 2 ^ 56
 
--- so few workers and reducers that a byte counts them, and lanes with room
-pub record AreFew (s : Setup) : Type 0 where
-  pub workers : s.workers < 2 ^ 8
-  pub reducers : s.reducers < 2 ^ 8
+-- A run is no larger than the options allow: a byte counts its workers, reducers and attempts, its splits have so many records, no worker is delayed for more turns, and its lanes have room.
+pub record IsSized (s : Setup) : Type 0 where
+  pub workers : s.workers ≤ 8
+  pub reducers : s.reducers ≤ 8
+  pub attempts : s.attempts ≤ 16
+  pub splits : length s.lens ≤ 1024
+  pub lens : (i : ℕ) → slice_index s.lens i ≤ 16777216
+  pub delays : (w : ℕ) → delay_of s.script w ≤ 10000
   pub room : 0 < s.capacity
 
 -- # One turn

@@ -1,7 +1,10 @@
+pub mod Begun
 pub mod CaughtUp
 pub mod Crews
 pub mod Drains
+pub mod Lacking
 pub mod Meets
 pub mod Playing
 pub mod Pulled
+pub mod Settled
 pub mod Stops

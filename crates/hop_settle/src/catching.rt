@@ -60,7 +60,7 @@ fn catch_attempt<N: RunName, E: Reach<N>, M: Store<N, E>, D: Taker<N, E>>(
 }
 
 // How many attempts of the split some mapper began, at most: above them nothing was kept.
-fn begun_of<N: RunName, E: Reach<N>, M: Store<N, E>>(mappers: &Vec<M>, split: u32) -> u8
+pub(crate) fn begun_of<N: RunName, E: Reach<N>, M: Store<N, E>>(mappers: &Vec<M>, split: u32) -> u8
     ensures most { (w : ℕ) (m : Mapper) → slice_get (map M.mapper mappers.now.items) w ≡ Some m → m.begun split ≤ result }
     ensures least { (n : ℕ) → ((w : ℕ) (m : Mapper) → slice_get (map M.mapper mappers.now.items) w ≡ Some m → m.begun split ≤ n) → result ≤ n }
 {

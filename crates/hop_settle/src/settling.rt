@@ -6,7 +6,7 @@ ghost use Rattle.hop_machine.specs.home.Conditions.{HasAll};
 ghost use Rattle.hop_machine.specs.play.Play.{Went, Passing, Mapping, Emptying, all_true};
 ghost use Rattle.hop_machine.specs.run.AllHome.{IsAtPlace};
 ghost use Rattle.hop_machine.specs.settling.Settling.{HasRoom, pass_left};
-ghost use Rattle.hop_settle.specs.Crews.{actors_of, world_of, flags_of, AreWell, AreFew, TurnsBelow, TurnsLeft};
+ghost use Rattle.hop_settle.specs.Crews.{actors_of, world_of, flags_of, AreWell, IsSized, TurnsBelow, TurnsLeft};
 ghost use Rattle.hop_settle.specs.Stops.{place_after, StoresStop};
 
 use crate::drains::drain_all;
@@ -26,7 +26,7 @@ fn pass<N: RunName, E: Reach<N>, M: Store<N, E>, D: Taker<N, E>>(
     requires ends { HasAll (E.deeds reach.old) }
     requires well { AreWell M.failed M.fits (E.deeds reach.old).ends.board mappers.old.items }
     requires turns { TurnsBelow (2 ^ 56) (map M.mapper mappers.old.items) }
-    requires few { AreFew (E.deeds reach.old).setup }
+    requires sized { IsSized (E.deeds reach.old).setup }
     ensures went { (x : Writer) → Went E.exact (Mapping 0 (flags_of (map M.mapper mappers.old.items)), world_of (map M.mapper mappers.old.items) (map D.reducer reducers.old.items) x (E.deeds reach.old))
         (place_after result (Passing (flags_of (map M.mapper mappers.new.items))), world_of (map M.mapper mappers.new.items) (map D.reducer reducers.new.items) x (E.deeds reach.new)) }
     ensures ends { (E.deeds reach.new).ends ≡ (E.deeds reach.old).ends }
@@ -58,7 +58,7 @@ pub(crate) fn passes<N: RunName, E: Reach<N>, M: Store<N, E>, D: Taker<N, E>>(
     requires ends { HasAll (E.deeds reach.old) }
     requires well { AreWell M.failed M.fits (E.deeds reach.old).ends.board mappers.old.items }
     requires turns { TurnsLeft (map M.mapper mappers.old.items) (E.deeds reach.old) }
-    requires few { AreFew (E.deeds reach.old).setup }
+    requires sized { IsSized (E.deeds reach.old).setup }
     ensures went { (x : Writer) → Went E.exact (Passing (flags_of (map M.mapper mappers.old.items)), world_of (map M.mapper mappers.old.items) (map D.reducer reducers.old.items) x (E.deeds reach.old))
         (place_after result (Emptying 0), world_of (map M.mapper mappers.new.items) (map D.reducer reducers.new.items) x (E.deeds reach.new)) }
     ensures ends { (E.deeds reach.new).ends ≡ (E.deeds reach.old).ends }

@@ -101,7 +101,7 @@ returns-clause-room g c = λ w l.
     let home = c.requires.home.1.ready.home in
     let many : length c.args.reducers.now.items ≡ d.setup.reducers = sym (length-map c.args.reducers.now.items h) ∙ home.reducers ∙ ap (λ (s : Setup). s.reducers) (sym same) in
     let P : ℕ → Type 0 = λ k. Drained k d u in
-    let cap = ap (λ (s : Setup). s.capacity) same in let wk = ap (λ (s : Setup). s.workers) same in let r = c.requires.few.room in let m = home.workers in
+    let cap = ap (λ (s : Setup). s.capacity) same in let wk = ap (λ (s : Setup). s.workers) same in let r = c.requires.sized.room in let m = home.workers in
     drained-room e d u z c.meet_all.ensures.met (subst P many c.in_ok-drain_all.ensures.drained) c.meet_all-2.ensures.learns c.meet_all-2.ensures.met (omega (arith, cap, r)) w
     (omega (arith, wk, m, length-map c.args.mappers.now.items f, l))
 

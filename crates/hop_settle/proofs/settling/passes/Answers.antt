@@ -47,13 +47,13 @@ pass-requires-clause-ends g c =
 pub pass-requires-clause-turns : goal.pass-requires-clause-turns
 pass-requires-clause-turns g c = λ k m is. let t = c.loop-mappers.invariant.turns in let b = t.1 k m is in let n = t.2 in omega (arith, b, n)
 
-pub pass-requires-clause-few : goal.pass-requires-clause-few
-pass-requires-clause-few g c =
+pub pass-requires-clause-sized : goal.pass-requires-clause-sized
+pass-requires-clause-sized g c =
     let E = g.E.Reach in let f = g.M.Store.mapper in let h = g.D.Taker.reducer in let l = c.loop-mappers in let x = c.requires.home.0 in
     let ms = map f c.args.mappers.now.items in let ns = map f l.mappers.items in
-    subst (λ (s : Setup). Rattle.hop_settle.specs.Crews.AreFew s)
+    subst (λ (s : Setup). Rattle.hop_settle.specs.Crews.IsSized s)
     (sym (went_same E.exact (Passing (flags_of ms), world_of ms (map h c.args.reducers.now.items) x (E.deeds c.args.reach.now)) (Passing (flags_of ns), world_of ns (map h l.reducers.items) x (E.deeds l.reach)) (l.invariant.went x)))
-    c.requires.few
+    c.requires.sized
 
 pub returns-in_err-pass-clause-went : goal.returns-in_err-pass-clause-went
 returns-in_err-pass-clause-went g c = λ x.

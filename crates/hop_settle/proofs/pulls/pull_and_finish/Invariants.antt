@@ -1,0 +1,16 @@
+use Rattle.std.proofs.Common.{◌≡◌, ℕ, ◌≤◌, length, map}
+use Rattle.hop_machine.specs.actors.ReducerTurns.{Writer}
+use Rattle.hop_machine.specs.play.Play.{Went, Pulling}
+use Rattle.hop_settle.specs.Crews.{world_of, AreWell}
+use Rattle.hop_settle.proofs.pulls.pull_and_finish.Given as goal
+
+-- the histories of the reducers before p are finished
+abbrev pub invariant-loop-p : goal.invariant-loop-p
+invariant-loop-p g l = let E = g.E.Reach in let M = g.M.Actor in let k = g.M.Store.mapper in let f = g.D.Taker.reducer in record {
+  count : length l.reducers.items ≡ length l.fn.reducers.items;
+  ends : (E.deeds l.reach).ends ≡ (E.deeds l.fn.reach).ends;
+  same : map k l.mappers.items ≡ map k l.fn.mappers.items;
+  well : AreWell M.failed M.fits (E.deeds l.reach).ends.board l.mappers.items;
+  counts : map M.counts l.mappers.items ≡ map M.counts l.fn.mappers.items;
+  went : (x : Writer) → Went E.exact (Pulling 0 0, world_of (map k l.fn.mappers.items) (map f l.fn.reducers.items) x (E.deeds l.fn.reach)) (Pulling l.p 0, world_of (map k l.mappers.items) (map f l.reducers.items) x (E.deeds l.reach));
+}
