@@ -98,7 +98,14 @@ fn order_writer<N: RunName, E: Reach<N>, W: SnapshotWriter<N, E>>(
 }
 
 // A turn of the actor, or catching up.
-fn order<N: RunName, E: Reach<N>, M: Store<N, E>, D: Taker<N, E>, G: Actor<N, E>, W: SnapshotWriter<N, E>>(
+fn order<
+    N: RunName,
+    E: Reach<N>,
+    M: Store<N, E>,
+    D: Taker<N, E>,
+    G: Actor<N, E>,
+    W: SnapshotWriter<N, E>,
+>(
     mappers: &mut Vec<M>,
     reducers: &mut Vec<D>,
     mergers: &mut Vec<G>,
@@ -141,7 +148,14 @@ fn order<N: RunName, E: Reach<N>, M: Store<N, E>, D: Taker<N, E>, G: Actor<N, E>
 }
 
 // So many turns of an actor.
-fn line<N: RunName, E: Reach<N>, M: Store<N, E>, D: Taker<N, E>, G: Actor<N, E>, W: SnapshotWriter<N, E>>(
+fn line<
+    N: RunName,
+    E: Reach<N>,
+    M: Store<N, E>,
+    D: Taker<N, E>,
+    G: Actor<N, E>,
+    W: SnapshotWriter<N, E>,
+>(
     mappers: &mut Vec<M>,
     reducers: &mut Vec<D>,
     mergers: &mut Vec<G>,
@@ -182,7 +196,14 @@ fn line<N: RunName, E: Reach<N>, M: Store<N, E>, D: Taker<N, E>, G: Actor<N, E>,
 
 /// The cuts that are due on the empty histories are sent, and then the actors take the turns of a turn list, in order; `c` is catching up. A fault ends it: of a mapper or the writer that
 /// failed, or want of memory.
-pub fn play<N: RunName, E: Reach<N>, M: Store<N, E>, D: Taker<N, E>, G: Actor<N, E>, W: SnapshotWriter<N, E>>(
+pub fn play<
+    N: RunName,
+    E: Reach<N>,
+    M: Store<N, E>,
+    D: Taker<N, E>,
+    G: Actor<N, E>,
+    W: SnapshotWriter<N, E>,
+>(
     mappers: &mut Vec<M>,
     reducers: &mut Vec<D>,
     mergers: &mut Vec<G>,

@@ -1,13 +1,11 @@
-use Rattle.std.proofs.Common.{◌≡◌, ◌+◌, ◌-◌, ◌^◌, ◌≤◌, ◌<◌, ◌∷◌, [], ℕ, List, map, Result, Err, refl, sym, ap, ◌∙◌, subst, arith, rules}
-use Rattle.hop_machine.specs.home.Conditions.{HasAll}
+use Rattle.std.proofs.Common.{◌≡◌, ◌+◌, ◌-◌, ◌^◌, ◌∷◌, [], List, map, Err, refl, ◌∙◌, subst, arith, rules}
 use Rattle.hop_machine.specs.play.Play.{World, Place, Order, Went, Listed}
-use Rattle.hop_machine.specs.run.AllHome.{Ready}
 use Rattle.hop_machine.proofs.home.Here.{all_kept}
 use Rattle.hop_machine.proofs.play.Plays.{went_self, went_both, went_same}
 use Rattle.hop_machine.proofs.run.Places.{went_at_home}
 use Rattle.hop_actors.specs.declared.fault.Fault.{Fault}
 use Rattle.hop_settle.specs.Crews.{world_of}
-use Rattle.hop_settle.specs.Playing.{WentOn, order_of, repeated}
+use Rattle.hop_settle.specs.Playing.{order_of, repeated}
 use Rattle.hop_settle.proofs.PlayLaws.{went-then, went-fault, turns-more, repeated-next, repeated-over}
 use Rattle.hop_settle.proofs.playing.line.Goals as goal
 

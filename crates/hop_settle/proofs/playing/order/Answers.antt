@@ -1,6 +1,6 @@
-use Rattle.std.proofs.Common.{◌≡◌, List, ◌∷◌, length, map, refl, sym, ap, ◌∙◌, subst, OnOk}
+use Rattle.std.proofs.Common.{◌∷◌, map, refl, sym, ap, subst}
 use Rattle.hop_machine.specs.declared.words.Who.TheVariants as whose
-use Rattle.hop_machine.specs.play.Play.{World, Order, TurnOf, CatchUp, CatchingUp, Listed, Went}
+use Rattle.hop_machine.specs.play.Play.{World, Order, TurnOf, CatchUp, CatchingUp, Listed}
 use Rattle.hop_machine.proofs.play.Plays.{went_both}
 use Rattle.hop_machine.proofs.play.Going.{listed-merger, listed-catch}
 use Rattle.hop_settle.specs.Crews.{AreWell, world_of}

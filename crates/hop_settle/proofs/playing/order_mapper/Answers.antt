@@ -1,4 +1,4 @@
-use Rattle.std.proofs.Common.{◌≡◌, ◌+◌, ℕ, List, ◌∷◌, length, map, sym, ap, ◌∙◌, subst, Result, OnOk, arith}
+use Rattle.std.proofs.Common.{◌+◌, ◌∷◌, map, sym, ap, ◌∙◌, subst, Result, OnOk, arith}
 use Rattle.std.proofs.lemmas.List.{length-map}
 use Rattle.hop_machine.specs.declared.words.Who.TheVariants as whose
 use Rattle.hop_machine.specs.play.Play.{Place, TurnOf, Listed, Went}

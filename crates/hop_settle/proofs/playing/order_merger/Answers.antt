@@ -1,8 +1,6 @@
-use Rattle.std.proofs.Common.{◌≡◌, List, length, slice_set, sym, ap, ◌∙◌, subst, Result, OnOk, IfErr}
+use Rattle.std.proofs.Common.{◌≡◌, slice_set, sym, ap, subst, Result, OnOk, IfErr}
 use Rattle.hop_machine.specs.step.Steps.{Ends}
-use Rattle.hop_actors.specs.Acting.{Acting, said_turn}
-use Rattle.hop_actors.specs.Counting.{Counts, TurnCause}
-use Rattle.hop_actors.specs.declared.turn.Turn.{Turn}
+use Rattle.hop_actors.specs.Acting.{said_turn}
 use Rattle.hop_actors.specs.declared.fault.Fault.{Fault}
 use Rattle.hop_actors.specs.declared.fault.Fault.TheVariants as fault
 use Rattle.hop_settle.specs.Crews.{AreWell}

@@ -1,4 +1,4 @@
-use Rattle.std.proofs.Common.{◌≡◌, List, ◌∷◌, sym, ap, ◌∙◌, subst, Result}
+use Rattle.std.proofs.Common.{◌∷◌, sym, ap, ◌∙◌, subst, Result}
 use Rattle.hop_machine.specs.declared.words.Who.TheVariants as whose
 use Rattle.hop_machine.specs.actors.ReducerTurns.{writer_turn}
 use Rattle.hop_machine.specs.play.Play.{Place, TurnOf, Listed, Went}

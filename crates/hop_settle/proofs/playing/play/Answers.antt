@@ -1,17 +1,15 @@
-use Rattle.std.proofs.Common.{◌≡◌, ◌+◌, ◌-◌, ◌^◌, ◌≤◌, ◌<◌, ◌∷◌, [], ℕ, List, map, drop, get_or, Result, Err, refl, sym, ap, ◌∙◌, subst, arith, rules}
+use Rattle.std.proofs.Common.{◌≡◌, ◌+◌, ◌-◌, ◌^◌, [], List, map, drop, get_or, Err, refl, sym, ap, ◌∙◌, subst, arith, rules}
 use Rattle.hop_script.specs.TurnLines.{turn_count}
 use Rattle.hop_script.specs.declared.turn.Turn.{Turn as Line}
 use Rattle.hop_script.specs.declared.turn.TurnOf.TheVariants as line
-use Rattle.hop_machine.specs.home.Conditions.{HasAll}
 use Rattle.hop_machine.specs.step.Steps.{Ends}
 use Rattle.hop_machine.specs.play.Play.{World, Place, Order, Went, Opening, Listed}
-use Rattle.hop_machine.specs.run.AllHome.{Ready}
 use Rattle.hop_machine.proofs.home.Here.{all_kept}
-use Rattle.hop_machine.proofs.play.Plays.{went_self, went_both, went_same}
+use Rattle.hop_machine.proofs.play.Plays.{went_both, went_same}
 use Rattle.hop_machine.proofs.run.Places.{went_at_home}
 use Rattle.hop_actors.specs.declared.fault.Fault.{Fault}
 use Rattle.hop_settle.specs.Crews.{world_of}
-use Rattle.hop_settle.specs.Playing.{WentOn, order_of, orders_of, repeated}
+use Rattle.hop_settle.specs.Playing.{order_of, orders_of, repeated}
 use Rattle.hop_settle.proofs.PlayLaws.{went-on, went-then, went-fault, turns-more, well-kept, count-next, orders-next}
 use Rattle.hop_settle.proofs.playing.play.Goals as goal
 

@@ -1,4 +1,4 @@
-use Rattle.std.proofs.Common.{◌≡◌, ◌≤◌, ℕ, ◌+◌, ◌-◌, false, List, length, map, drop}
+use Rattle.std.proofs.Common.{◌≡◌, ◌≤◌, ℕ, ◌+◌, ◌-◌, false, length, map, drop}
 use Rattle.hop_script.specs.TurnLines.{turn_count}
 use Rattle.hop_machine.specs.play.Play.{Opening, Listed, Went}
 use Rattle.hop_settle.specs.Crews.{AreWell, TurnsBelow, world_of}
