@@ -39,6 +39,7 @@ kept-is ms i a place end most keeper = of (less_or_not 0 end)
   where
     low : kept_by ms i a ≤ end
     low = kept-least ms i a end most
+
     of : (0 < end) ⊎ (end ≤ 0) → end ≡ kept_by ms i a
     of (inl x) = let k = keeper x in let y = kept-above ms i a place k.keeper k.here in let e = k.kept in omega (arith, low, y, e)
     of (inr x) = omega (arith, low, x)

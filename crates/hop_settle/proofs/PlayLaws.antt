@@ -1,14 +1,19 @@
 -- The turns of a turn list.
-use Rattle.std.proofs.Common.{◌≡◌, ◌⊎◌, ⊎_elim, ℕ, zero, suc, ◌+◌, ◌-◌, ◌≤◌, ◌<◌, Bool, true, false, List, [], ◌∷◌, length, refl, sym, ap, ◌∙◌, subst, slice_set, Some, arith}
+use Rattle.std.proofs.Common.{◌≡◌, ◌⊎◌, ⊎_elim, ℕ, zero, suc, ◌+◌, ◌-◌, ◌≤◌, ◌<◌, Bool, true, false, List, [], ◌∷◌, length, refl, sym, ap, ◌∙◌, subst, slice_set, get_or, drop, drop-cons, add-one, Some, Result, Ok, Err, arith}
+use Rattle.hop_script.specs.declared.turn.Turn.{Turn as Line}
+use Rattle.std.proofs.lemmas.List.Sums.{sum_by-drop_more}
+use Rattle.hop_script.specs.TurnLines.{turn_count}
+use Rattle.std.specs.Prelude.{OnOk, IfErr}
 use Rattle.std.specs.List.{slice_get}
 use Rattle.hop_machine.specs.declared.words.Turn.{Turn as Said}
-use Rattle.hop_machine.specs.step.Steps.{Prog, Done, Deeds, Runs}
+use Rattle.hop_machine.specs.step.Steps.{Prog, Done, Ends, Deeds, Runs}
 use Rattle.hop_machine.specs.actors.MapperTurns.{Mapper}
 use Rattle.hop_machine.specs.actors.ReducerTurns.{Reducer, Writer, send_due}
 use Rattle.hop_machine.specs.home.Conditions.{HasReducer, HasAll}
 use Rattle.hop_machine.specs.play.Play.{Order, Actors, Place, World, Went, Opening, Listed, Learns, unless_halted}
 use Rattle.hop_machine.specs.run.AllHome.{Opens}
 use Rattle.hop_machine.proofs.step.Programs.{Runs-and_then}
+use Rattle.hop_machine.proofs.play.Plays.{went_both}
 use Rattle.hop_machine.proofs.play.Going.{opens, opened}
 use Rattle.hop_machine.proofs.settling.Passes.{get_set}
 use Rattle.hop_actors.specs.declared.fault.Fault.{Fault}
@@ -17,8 +22,9 @@ use Rattle.hop_actors.specs.Acting.{Acting, Merges, Turned, MayCall}
 use Rattle.hop_actors.specs.Counting.{Counts, MemoryCause, TurnCause}
 use Rattle.hop_actors.specs.declared.turn.Turn.{Turn}
 use Rattle.hop_actors.specs.declared.turn.Turn.TheVariants as answer
-use Rattle.hop_settle.specs.Crews.{TurnsBelow, actors_of, world_of}
-use Rattle.hop_settle.specs.Playing.{AreMergers, repeated}
+use Rattle.hop_settle.specs.Crews.{AreWell, TurnsBelow, actors_of, world_of}
+use Rattle.hop_settle.specs.Playing.{AreMergers, EndsAt, WentOn, order_of, orders_of, repeated}
+use Rattle.hop_settle.specs.Stops.{place_after}
 
 -- # The first cuts
 
@@ -65,3 +71,49 @@ repeated-over o later n i l = let e : n - i ≡ 0 = omega (arith, l) in ap (λ k
 
 pub merger-memory : (x : Acting) (a b : Counts) (t : Turn) (f : Fault) → x ≡ Merges → t ≡ answer.Failed f → TurnCause x a b t → f ≡ fault.NoMemory
 merger-memory x a b t f is so h = memory-only a b f (subst (λ (z : Acting × Turn). TurnCause z.0 a b z.1) (λ i. (is i, so i)) h)
+
+-- # Where the run goes on, or a fault ended it
+
+pub ends-so : (f : Fault) (go : Place) → EndsAt f (place_after {A = Unit {0}} (Err f) go)
+ends-so (fault.SpentAt split) go = refl
+ends-so fault.FolderFailed go = refl
+ends-so (fault.SpillFailed worker) go = refl
+ends-so (fault.SpillDamaged worker at kept found) go = refl
+ends-so (fault.SpillCollides worker at place) go = refl
+ends-so fault.NoMemory go = tt
+
+module _ (e : Bool) (a : Place × World) (w : World) where
+  pub went-on : (r : Result (Unit {0}) Fault) (go : Place) → Went e a (place_after r go, w) → WentOn e a r go w
+  went-on (Ok x) go h = h
+  went-on (Err f) go h = (place_after {A = Unit {0}} (Err f) go, h, ends-so f go)
+
+  -- a merger's turn leaves it where it goes on, whether memory was there or not
+  pub went-merging : (r : Result (Unit {0}) Fault) (go : Place) → IfErr r (λ f. f ≡ fault.NoMemory) → Went e a (go, w) → WentOn e a r go w
+  went-merging (Ok x) go memory h = h
+  went-merging (Err f) go memory h = (go, h, subst (λ z. EndsAt z go) (sym memory) tt)
+
+  pub went-then : (b : Place × World) (r : Result (Unit {0}) Fault) (go : Place) → Went e a b → WentOn e b r go w → WentOn e a r go w
+  went-then b (Ok x) go h k = went_both e a b (go, w) h k
+  went-then b (Err f) go h k = (k.0, went_both e a b (k.0, w) h k.1, k.2)
+
+  pub went-fault : (r : Result (Unit {0}) Fault) (f : Fault) (go other : Place) → Err f ≡ r → WentOn e a (Err f) go w → WentOn e a r other w
+  went-fault r f go other is h = subst (λ z. WentOn e a z other w) is h
+
+pub ok-any : {A E : Type 0} (r : Result A E) (P : Type 0) → P → OnOk r P
+ok-any (Ok x) P h = h
+ok-any (Err e) P h = tt
+
+pub well-kept : {M : Type 0} (failed : M → Bool) (fits : M → List ℕ → Type 0) (ms : List M) (a b : Deeds) → b.ends ≡ a.ends → AreWell failed fits a.ends.board ms → AreWell failed fits b.ends.board ms
+well-kept failed fits ms a b same h = subst (λ (z : Ends). AreWell failed fits z.board ms) (sym same) h
+
+-- # The lines
+
+-- the next line, and those behind it
+pub line-next : (items : List Line) (k : ℕ) (d : Line) → k < length items → drop k items ≡ get_or items k d ∷ drop (k + 1) items
+line-next items k d l = rw (add-one, drop-cons items k d)
+
+pub count-next : (items : List Line) (k : ℕ) (d : Line) → k < length items → turn_count (drop k items) ≡ (get_or items k d).count + turn_count (drop (k + 1) items)
+count-next items k d l = sum_by-drop_more (λ (t : Line). t.count) items k d l
+
+pub orders-next : (items : List Line) (k : ℕ) (d : Line) → k < length items → orders_of (drop k items) ≡ repeated (get_or items k d).count (order_of (get_or items k d).actor) (orders_of (drop (k + 1) items))
+orders-next items k d l = ap orders_of (line-next items k d l)

@@ -35,6 +35,7 @@ rows-parted ms i a zero m = (λ t. rows_of_split ms i (left t) (sum t))
   where
     left : a ≡ a + 0
     left = omega arith
+
     sum : 0 + m ≡ m
     sum = omega arith
 rows-parted ms i a (suc n) m =
@@ -50,6 +51,7 @@ kept-parted ms limit i zero m = (λ t. kept_rows ms limit (left t) (sum t))
   where
     left : i ≡ i + 0
     left = omega arith
+
     sum : 0 + m ≡ m
     sum = omega arith
 kept-parted ms limit i (suc n) m =
@@ -65,8 +67,7 @@ pub rows-next : (ms : List Mapper) (i k n : ℕ) → k < n → (rest : List Row)
 rows-next ms i k n l =
     let left : ℕ = n - (k + 1) in
     let sum : n ≡ k + (1 + left) = omega (arith, l) in
-    let at : 0 + k ≡ k = omega arith in
-    (
+    let at : 0 + k ≡ k = omega arith in (
       rows_of_split ms i (k + 1) left,
       ap (rows_of_split ms i 0) sum ∙ rows-parted ms i 0 k (1 + left) ∙ ap (λ b. rows_of_split ms i 0 k ++ rows_of_split ms i b (1 + left)) at ∙ ap (λ rows. rows_of_split ms i 0 k ++ rows) (rows-parted ms i k 1 left),
     )
@@ -78,8 +79,7 @@ pub kept-next : (ms : List Mapper) (limit k n : ℕ) → k < n → (rest : List 
 kept-next ms limit k n l =
     let left : ℕ = n - (k + 1) in
     let sum : n ≡ k + suc left = omega (arith, l) in
-    let at : 0 + k ≡ k = omega arith in
-    (
+    let at : 0 + k ≡ k = omega arith in (
       kept_rows ms limit (k + 1) left,
       ap (kept_rows ms limit 0) sum ∙ kept-parted ms limit 0 k (suc left) ∙ ap (λ b. kept_rows ms limit 0 k ++ kept_rows ms limit b (suc left)) at,
     )

@@ -1,12 +1,14 @@
 -- The turns of a turn list, as a run takes them.
-use Rattle.std.specs.Prelude.{◌≡◌, ℕ, zero, suc, Bool, false, List, [], ◌∷◌, Some}
+use Rattle.std.specs.Prelude.{◌≡◌, ℕ, zero, suc, Bool, false, List, [], ◌∷◌, Some, Result, Ok, Err}
 use Rattle.std.specs.List.{slice_get}
 use Rattle.hop_script.specs.declared.turn.Actors.{Actors as Numbers}
 use Rattle.hop_script.specs.declared.turn.Turn.{Turn}
 use Rattle.hop_script.specs.declared.turn.TurnOf.{TurnOf as Line}
 use Rattle.hop_script.specs.declared.turn.TurnOf.TheVariants as line
 use Rattle.hop_machine.specs.declared.words.Who.TheVariants as whose
-use Rattle.hop_machine.specs.play.Play.{Order, TurnOf, CatchUp}
+use Rattle.hop_machine.specs.play.Play.{Order, TurnOf, CatchUp, Place, NoneLeft, Halted, World, Went}
+use Rattle.hop_actors.specs.declared.fault.Fault.{Fault}
+use Rattle.hop_actors.specs.declared.fault.Fault.TheVariants as fault
 use Rattle.hop_actors.specs.Acting.{Acting, Merges}
 
 -- what a line asks for
@@ -34,3 +36,17 @@ numbers workers reducers mergers = record { workers = workers; reducers = reduce
 -- each of these actors is a merger
 abbrev pub AreMergers : {G : Type 0} → (G → Acting) → List G → Type 0
 AreMergers acting gs = (k : ℕ) (x : _) → slice_get gs k ≡ Some x → acting x ≡ Merges
+
+-- Where a fault ends a run: a split has no attempt left, or the run is halted. Want of memory leaves it where it came to, since a merger's turn is no step.
+abbrev pub EndsAt : Fault → Place → Type 0
+EndsAt (fault.SpentAt i) at = at ≡ NoneLeft i
+EndsAt fault.FolderFailed at = at ≡ Halted
+EndsAt (fault.SpillFailed worker) at = at ≡ Halted
+EndsAt (fault.SpillDamaged worker part kept found) at = at ≡ Halted
+EndsAt (fault.SpillCollides worker part byte) at = at ≡ Halted
+EndsAt fault.NoMemory at = Unit {0}
+
+-- the run went to where it goes on, or to where a fault ended it
+abbrev pub WentOn : Bool → Place × World → Result (Unit {0}) Fault → Place → World → Type 0
+WentOn e a (Ok x) go w = Went e a (go, w)
+WentOn e a (Err f) go w = (at : Place) × Went e a (at, w) × EndsAt f at

@@ -1,7 +1,6 @@
-use Rattle.std.proofs.Common.{◌≡◌, ◌<◌, ℕ, Bool, true, false, List, map, Option, Some, refl, sym, ap, ◌∙◌, subst, arith}
+use Rattle.std.proofs.Common.{◌≡◌, ◌<◌, ℕ, true, false, map, Some, sym, ◌∙◌, subst, arith}
 use Rattle.std.proofs.lemmas.Bool.{le-ltb}
-use Rattle.hop_base.specs.declared.part.Part.{Part}
-use Rattle.hop_machine.specs.step.Steps.{Deeds, Runs}
+use Rattle.hop_machine.specs.step.Steps.{Runs}
 use Rattle.hop_machine.specs.actors.ReducerTurns.{Reducer, reads_wants, reads_upto}
 use Rattle.hop_machine.specs.play.Play.{kept_by, pull, rows_of_split}
 use Rattle.hop_actors.specs.Acting.{MayCall}

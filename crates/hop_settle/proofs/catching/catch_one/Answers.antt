@@ -1,8 +1,8 @@
-use Rattle.std.proofs.Common.{◌≡◌, Bool, true, false, List, map, Option, Some, None, refl, sym, ap, ◌∙◌, subst, is_ok}
+use Rattle.std.proofs.Common.{Bool, true, false, map, Some, None, refl, sym, ◌∙◌, subst}
 use Rattle.hop_machine.specs.step.Setup.{Setup, splits_of}
 use Rattle.hop_machine.specs.step.Steps.{Runs}
 use Rattle.hop_machine.specs.actors.ReducerTurns.{Reducer, restart_if_due}
-use Rattle.hop_machine.specs.play.Play.{Row, kept_rows, catch_up, pull_rows}
+use Rattle.hop_machine.specs.play.Play.{kept_rows, catch_up}
 use Rattle.hop_actors.specs.Calls.{found}
 use Rattle.hop_settle.specs.CaughtUp.{pull_each}
 use Rattle.hop_settle.proofs.PullLaws.{well-over}

@@ -1,4 +1,4 @@
-use Rattle.std.proofs.Common.{◌≡◌, ◌+◌, Bool, true, false, List, map, Option, Some, None, refl, sym, ap, ◌∙◌, subst, arith}
+use Rattle.std.proofs.Common.{◌≡◌, Bool, true, false, List, map, Option, Some, None, sym, ap, ◌∙◌, subst, arith}
 use Rattle.hop_machine.specs.step.Steps.{Runs}
 use Rattle.hop_machine.specs.play.Play.{Row, rows_of_split}
 use Rattle.hop_actors.specs.Calls.{found}
@@ -14,7 +14,7 @@ returns-in_err-catch_attempt-clause-runs g c = let E = g.E.Reach in let f = g.M.
     let r = h c.args.reducer.now in let y = h c.catch_attempt.new.reducer in let t = found c.from_residual.result in
     let none : t ≡ None = found-none c.from_residual.result c.from_residual.ensures.0 in
     let run : Runs E.exact (pull_each (rows_of_split (map f l.mappers.items) i l.attempt 1) (h l.reducer)) (E.deeds l.reach) (y, t) b =
-        subst (λ (o : Option Bool). Runs E.exact (pull_each (rows_of_split (map f l.mappers.items) i l.attempt 1) (h l.reducer)) (E.deeds l.reach) (y, o) b) (sym none) c.in_err-catch_attempt.ensures.runs in
+    subst (λ (o : Option Bool). Runs E.exact (pull_each (rows_of_split (map f l.mappers.items) i l.attempt 1) (h l.reducer)) (E.deeds l.reach) (y, o) b) (sym none) c.in_err-catch_attempt.ensures.runs in
     subst (λ (rows : List Row). Runs E.exact (pull_each rows r) a (y, t) b) (sym (all-attempts ms i n.result a c.requires.may.lags.mappers n.ensures.most n.ensures.least))
     (attempts-end E.exact ms (map f l.mappers.items) l.invariant.same r (h l.reducer) a (E.deeds l.reach) b y i l.attempt l.invariant.runs n.result t c.loop-attempt-test.true (not-none none) run)
 
@@ -24,7 +24,7 @@ returns-then-branch-clause-runs g c = let E = g.E.Reach in let f = g.M.Store.map
     let n = c.begun_of-attempt-end in let a = E.deeds c.args.reach.now in let b = E.deeds c.catch_attempt.new.reach in
     let r = h c.args.reducer.now in let y = h c.catch_attempt.new.reducer in
     let run : Runs E.exact (pull_each (rows_of_split (map f l.mappers.items) i l.attempt 1) (h l.reducer)) (E.deeds l.reach) (y, Some true) b =
-        subst (λ (o : Bool). Runs E.exact (pull_each (rows_of_split (map f l.mappers.items) i l.attempt 1) (h l.reducer)) (E.deeds l.reach) (y, Some o) b) c.if-branch.true c.in_ok-catch_attempt.ensures.runs in
+    subst (λ (o : Bool). Runs E.exact (pull_each (rows_of_split (map f l.mappers.items) i l.attempt 1) (h l.reducer)) (E.deeds l.reach) (y, Some o) b) c.if-branch.true c.in_ok-catch_attempt.ensures.runs in
     subst (λ (rows : List Row). Runs E.exact (pull_each rows r) a (y, Some true) b) (sym (all-attempts ms i n.result a c.requires.may.lags.mappers n.ensures.most n.ensures.least))
     (attempts-end E.exact ms (map f l.mappers.items) l.invariant.same r (h l.reducer) a (E.deeds l.reach) b y i l.attempt l.invariant.runs n.result (Some true) c.loop-attempt-test.true not-true run)
 
@@ -34,7 +34,7 @@ loop-attempt-preserved g c = let E = g.E.Reach in let f = g.M.Store.mapper in le
     let a = E.deeds c.args.reach.now in let b = E.deeds c.catch_attempt.new.reach in
     let r = h c.args.reducer.now in let y = h c.catch_attempt.new.reducer in let k = c.in_ok-catch_attempt.ensures in
     let run : Runs E.exact (pull_each (rows_of_split (map f l.mappers.items) i l.attempt 1) (h l.reducer)) (E.deeds l.reach) (y, Some false) b =
-        subst (λ (o : Bool). Runs E.exact (pull_each (rows_of_split (map f l.mappers.items) i l.attempt 1) (h l.reducer)) (E.deeds l.reach) (y, Some o) b) c.if-branch.false k.runs in
+    subst (λ (o : Bool). Runs E.exact (pull_each (rows_of_split (map f l.mappers.items) i l.attempt 1) (h l.reducer)) (E.deeds l.reach) (y, Some o) b) c.if-branch.false k.runs in
     record {
       may = catch-on E.exact (map f l.mappers.items) (map f c.catch_attempt.new.mappers.items) c.args.p i l.attempt 1 (h l.reducer) y (E.deeds l.reach) b k.same l.invariant.may run;
       setup = setup-on E.exact (pull_each (rows_of_split (map f l.mappers.items) i l.attempt 1) (h l.reducer)) (y, Some false) (E.deeds l.reach) b run ∙ l.invariant.setup;

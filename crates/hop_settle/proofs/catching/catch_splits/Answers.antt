@@ -1,4 +1,4 @@
-use Rattle.std.proofs.Common.{◌≡◌, ◌+◌, ℕ, length, Bool, true, false, List, map, Option, Some, None, refl, sym, ap, ◌∙◌, subst, arith}
+use Rattle.std.proofs.Common.{◌≡◌, length, Bool, true, false, List, map, Option, Some, None, sym, ap, ◌∙◌, subst, arith}
 use Rattle.hop_machine.specs.step.Steps.{Setup, Runs}
 use Rattle.hop_machine.specs.step.Setup.{splits_of}
 use Rattle.hop_machine.specs.play.Play.{Row, rows_of_split, kept_rows}
@@ -17,7 +17,7 @@ returns-in_err-catch_split-clause-runs g c = let E = g.E.Reach in let f = g.M.St
     let r = h c.args.reducer.now in let y = h c.catch_split.new.reducer in let t = found c.from_residual.result in
     let none : t ≡ None = found-none c.from_residual.result c.from_residual.ensures.0 in
     let run : Runs E.exact (pull_each (rows_of_split (map f l.mappers.items) l.split 0 bound) (h l.reducer)) (E.deeds l.reach) (y, t) b =
-        subst (λ (o : Option Bool). Runs E.exact (pull_each (rows_of_split (map f l.mappers.items) l.split 0 bound) (h l.reducer)) (E.deeds l.reach) (y, o) b) (sym none) c.in_err-catch_split.ensures.runs in
+    subst (λ (o : Option Bool). Runs E.exact (pull_each (rows_of_split (map f l.mappers.items) l.split 0 bound) (h l.reducer)) (E.deeds l.reach) (y, o) b) (sym none) c.in_err-catch_split.ensures.runs in
     let many : length a.setup.lens ≡ length c.as_slice-splits.result.now = ap (λ (s : Setup). length s.lens) (g.met.E.Reach.of_run c.args.reach.now) ∙ ap length (sym (c.as_slice-splits.ensures.value ∙ c.lens.ensures)) in
     let less = c.loop-split-test.true in
     splits-end E.exact ms (map f l.mappers.items) l.invariant.same r (h l.reducer) a (E.deeds l.reach) b y limit bound l.split (ap (λ (s : Setup). s.attempts) l.invariant.setup) l.invariant.runs (splits_of a.setup) t (omega (arith, many, less)) (not-none none) run
@@ -29,7 +29,7 @@ returns-then-branch-clause-runs g c = let E = g.E.Reach in let f = g.M.Store.map
     let limit = a.setup.attempts in let bound = (E.deeds l.reach).setup.attempts in
     let r = h c.args.reducer.now in let y = h c.catch_split.new.reducer in
     let run : Runs E.exact (pull_each (rows_of_split (map f l.mappers.items) l.split 0 bound) (h l.reducer)) (E.deeds l.reach) (y, Some true) b =
-        subst (λ (o : Bool). Runs E.exact (pull_each (rows_of_split (map f l.mappers.items) l.split 0 bound) (h l.reducer)) (E.deeds l.reach) (y, Some o) b) c.if-branch.true c.in_ok-catch_split.ensures.runs in
+    subst (λ (o : Bool). Runs E.exact (pull_each (rows_of_split (map f l.mappers.items) l.split 0 bound) (h l.reducer)) (E.deeds l.reach) (y, Some o) b) c.if-branch.true c.in_ok-catch_split.ensures.runs in
     let many : length a.setup.lens ≡ length c.as_slice-splits.result.now = ap (λ (s : Setup). length s.lens) (g.met.E.Reach.of_run c.args.reach.now) ∙ ap length (sym (c.as_slice-splits.ensures.value ∙ c.lens.ensures)) in
     let less = c.loop-split-test.true in
     splits-end E.exact ms (map f l.mappers.items) l.invariant.same r (h l.reducer) a (E.deeds l.reach) b y limit bound l.split (ap (λ (s : Setup). s.attempts) l.invariant.setup) l.invariant.runs (splits_of a.setup) (Some true) (omega (arith, many, less)) not-true run
@@ -41,7 +41,7 @@ loop-split-preserved g c = let E = g.E.Reach in let f = g.M.Store.mapper in let 
     let limit = a.setup.attempts in let bound = (E.deeds l.reach).setup.attempts in
     let r = h c.args.reducer.now in let y = h c.catch_split.new.reducer in let k = c.in_ok-catch_split.ensures in
     let run : Runs E.exact (pull_each (rows_of_split (map f l.mappers.items) l.split 0 bound) (h l.reducer)) (E.deeds l.reach) (y, Some false) b =
-        subst (λ (o : Bool). Runs E.exact (pull_each (rows_of_split (map f l.mappers.items) l.split 0 bound) (h l.reducer)) (E.deeds l.reach) (y, Some o) b) c.if-branch.false k.runs in
+    subst (λ (o : Bool). Runs E.exact (pull_each (rows_of_split (map f l.mappers.items) l.split 0 bound) (h l.reducer)) (E.deeds l.reach) (y, Some o) b) c.if-branch.false k.runs in
     record {
       may = catch-on E.exact (map f l.mappers.items) (map f c.catch_split.new.mappers.items) c.args.p l.split 0 bound (h l.reducer) y (E.deeds l.reach) b k.same l.invariant.may run;
       setup = setup-on E.exact (pull_each (rows_of_split (map f l.mappers.items) l.split 0 bound) (h l.reducer)) (y, Some false) (E.deeds l.reach) b run ∙ l.invariant.setup;

@@ -1,6 +1,6 @@
 use Rattle.std.proofs.Common.{◌≡◌, false, map, Some}
 use Rattle.hop_machine.specs.step.Steps.{Runs}
-use Rattle.hop_machine.specs.play.Play.{rows_of_split, kept_rows}
+use Rattle.hop_machine.specs.play.Play.{kept_rows}
 use Rattle.hop_settle.specs.CaughtUp.{MayCatch, pull_each}
 use Rattle.hop_settle.specs.Crews.{AreWell}
 use Rattle.hop_settle.proofs.catching.catch_splits.Given as goal

@@ -1,12 +1,11 @@
-use Rattle.std.proofs.Common.{◌≡◌, ◌+◌, ◌<◌, ℕ, Bool, true, false, List, [], length, map, Some, slice_set, refl, sym, ap, ◌∙◌, subst, arith, rules}
+use Rattle.std.proofs.Common.{◌≡◌, ◌+◌, ◌<◌, true, false, [], length, map, slice_set, refl, sym, ap, ◌∙◌, subst, arith, rules}
 use Rattle.std.specs.Prelude.{IfErr}
-use Rattle.std.specs.List.{slice_get}
 use Rattle.std.proofs.lemmas.Bool.{le-ltb}
 use Rattle.std.proofs.lemmas.List.{length-set, length-map}
 use Rattle.hop_machine.specs.declared.words.Turn.TheVariants as said
 use Rattle.hop_machine.specs.step.Setup.{Setup, splits_of}
 use Rattle.hop_machine.specs.home.Conditions.{HasAll}
-use Rattle.hop_machine.specs.play.Play.{World, Place, Went, CatchingUp, Listed, Halted, kept_rows, catch_up, unless_halted}
+use Rattle.hop_machine.specs.play.Play.{World, Place, Went, CatchingUp, Listed, Halted, kept_rows, catch_up}
 use Rattle.hop_machine.specs.run.AllHome.{Ready}
 use Rattle.hop_machine.proofs.step.Owners.{Runs-ends}
 use Rattle.hop_machine.proofs.home.Here.{all_kept}
@@ -15,9 +14,8 @@ use Rattle.hop_machine.proofs.play.Going.{caught-up}
 use Rattle.hop_machine.proofs.run.Places.{went_at_home}
 use Rattle.hop_actors.specs.Acting.{said_fault}
 use Rattle.hop_settle.specs.Crews.{world_of}
-use Rattle.hop_settle.specs.Stops.{place_after}
 use Rattle.hop_settle.proofs.Placing.{at-mapped, at-place, mapped-set}
-use Rattle.hop_settle.proofs.CatchLaws.{may-catch, halts-at, not-ok, caught-one}
+use Rattle.hop_settle.proofs.CatchLaws.{may-catch, halts-at, caught-one}
 use Rattle.hop_settle.proofs.catching.catch_up.Goals as goal
 
 pub loop-p-init : goal.loop-p-init

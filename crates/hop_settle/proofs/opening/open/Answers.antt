@@ -1,9 +1,9 @@
-use Rattle.std.proofs.Common.{◌≡◌, ◌+◌, ◌<◌, Bool, true, false, List, [], length, map, slice_set, refl, sym, ap, ◌∙◌, subst, arith}
+use Rattle.std.proofs.Common.{◌≡◌, ◌+◌, ◌<◌, true, false, [], length, map, slice_set, refl, sym, ◌∙◌, subst, arith}
 use Rattle.std.proofs.lemmas.Bool.{le-ltb}
 use Rattle.std.proofs.lemmas.List.{length-set, length-map}
-use Rattle.hop_machine.specs.actors.ReducerTurns.{Reducer, send_due}
+use Rattle.hop_machine.specs.actors.ReducerTurns.{send_due}
 use Rattle.hop_machine.specs.home.Conditions.{HasAll}
-use Rattle.hop_machine.specs.play.Play.{World, Place, Went, Opening, Listed, Halted}
+use Rattle.hop_machine.specs.play.Play.{World, Went, Opening, Listed, Halted}
 use Rattle.hop_machine.specs.run.AllHome.{Opens}
 use Rattle.hop_machine.proofs.step.Owners.{Runs-ends}
 use Rattle.hop_machine.proofs.home.Here.{all_kept}

@@ -1,10 +1,8 @@
-use Rattle.std.proofs.Common.{◌≡◌, ◌<◌, ◌≤◌, ℕ, length, map, Some, refl, sym, ap, ◌∙◌, arith}
+use Rattle.std.proofs.Common.{◌≡◌, map, Some, sym, ap, arith}
 use Rattle.std.specs.List.{slice_get}
 use Rattle.std.proofs.lemmas.List.{length-map}
 use Rattle.std.proofs.lemmas.Option.{slice_get_within}
-use Rattle.hop_machine.specs.actors.MapperTurns.{Mapper}
 use Rattle.hop_settle.specs.declared.pulling.Keeper.{Keeper}
-use Rattle.hop_settle.specs.Pulled.{IsKeeper}
 use Rattle.hop_settle.proofs.Placing.{at-mapped}
 use Rattle.hop_settle.proofs.KeeperLaws.{most-more, keeps-it, keeper-same, kept-is}
 use Rattle.hop_settle.proofs.pulling.keeper_of.Goals as goal
@@ -17,21 +15,21 @@ loop-w-preserved g c =
     let is : slice_get ms l.w ≡ Some m = at-mapped f c.args.mappers.now.items l.w c.index.result.now (omega (arith, c.loop-w-test.true, c.len-w-end.ensures)) c.index.ensures in
     elim c.if-end-best.branch [
       | then-end-best w ↦
-        let end = ap (λ (k : Keeper). k.end) w.best-is in
-        let place = ap (λ (k : Keeper). k.place) w.best-is in
-        let more = w.if-end-best.true in
-        record {
-          most = most-more ms i a l.w m is l.best.end c.if-end-best.best.end (omega (arith, end, more)) (omega (arith, end, c.kept-end.ensures)) (λ k n below g. l.invariant.most k n below g);
-          keeper = λ h. keeper-same ms i a l.w c.if-end-best.best.place c.kept-end.result c.if-end-best.best.end place end (keeps-it ms i a l.w m is c.kept-end.result (sym c.kept-end.ensures));
-        }
+          let end = ap (λ (k : Keeper). k.end) w.best-is in
+          let place = ap (λ (k : Keeper). k.place) w.best-is in
+          let more = w.if-end-best.true in
+          record {
+            most = most-more ms i a l.w m is l.best.end c.if-end-best.best.end (omega (arith, end, more)) (omega (arith, end, c.kept-end.ensures)) (λ k n below g. l.invariant.most k n below g);
+            keeper = λ h. keeper-same ms i a l.w c.if-end-best.best.place c.kept-end.result c.if-end-best.best.end place end (keeps-it ms i a l.w m is c.kept-end.result (sym c.kept-end.ensures));
+          }
       | else-end-best w ↦
-        let end = ap (λ (k : Keeper). k.end) w.best-is in
-        let place = ap (λ (k : Keeper). k.place) w.best-is in
-        let more = w.if-end-best.false in
-        record {
-          most = most-more ms i a l.w m is l.best.end c.if-end-best.best.end (omega (arith, end)) (omega (arith, end, more, c.kept-end.ensures)) (λ k n below g. l.invariant.most k n below g);
-          keeper = λ h. keeper-same ms i a l.best.place c.if-end-best.best.place l.best.end c.if-end-best.best.end place end (l.invariant.keeper (omega (arith, end, h)));
-        }
+          let end = ap (λ (k : Keeper). k.end) w.best-is in
+          let place = ap (λ (k : Keeper). k.place) w.best-is in
+          let more = w.if-end-best.false in
+          record {
+            most = most-more ms i a l.w m is l.best.end c.if-end-best.best.end (omega (arith, end)) (omega (arith, end, more, c.kept-end.ensures)) (λ k n below g. l.invariant.most k n below g);
+            keeper = λ h. keeper-same ms i a l.best.place c.if-end-best.best.place l.best.end c.if-end-best.best.end place end (l.invariant.keeper (omega (arith, end, h)));
+          }
     ]
 
 pub returns-clause-end : goal.returns-clause-end

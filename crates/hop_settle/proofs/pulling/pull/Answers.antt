@@ -1,4 +1,3 @@
-use Rattle.hop_actors.specs.Calls.{found}
 use Rattle.hop_settle.proofs.Placing.{at-mapped, mapped-set, at-place}
 use Rattle.hop_settle.proofs.pulling.pull.Goals as goal
 

@@ -1,4 +1,4 @@
-use Rattle.std.proofs.Common.{◌≡◌, ◌∙◌, Bool, true, false, sym, subst, Option, None}
+use Rattle.std.proofs.Common.{◌∙◌, Bool, true, false, sym, subst, Option}
 use Rattle.hop_machine.specs.actors.ReducerTurns.{Reducer, send_due, restart_if_due}
 use Rattle.hop_machine.specs.step.Steps.{Runs}
 use Rattle.hop_machine.specs.home.ReducerHome.{NoneDue}
