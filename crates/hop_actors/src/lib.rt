@@ -3,12 +3,14 @@
 
 pub mod actor;
 pub mod fault;
+pub mod snapshots;
 pub mod store;
 pub mod taker;
 pub mod turn;
 
 pub use actor::Actor;
 pub use fault::Fault;
+pub use snapshots::SnapshotWriter;
 pub use store::Store;
 pub use taker::Taker;
 pub use turn::{Kind, Turn};

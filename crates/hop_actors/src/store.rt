@@ -33,6 +33,10 @@ pub trait Store<N: RunName, E: Reach<N>>: Actor<N, E> {
     fn begun(&self, split: u32) -> u8
         ensures { result ≡ (mapper self.now).begun split };
 
+    /// Whether it has ended: its last turn was answered Ended.
+    fn has_ended(&self) -> bool
+        ensures { result ≡ (mapper self.now).ended };
+
     /// The sheets of partition `p` of whole kept spills, in order. Where the spill folders tell, all their pairs together stand for the range.
     fn fetch_back(&mut self, part: Part, p: u8) -> Result<FlatSheets, Fault>
         requires range { MayFetch (mapper self.old) part }

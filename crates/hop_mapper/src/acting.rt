@@ -51,6 +51,10 @@ impl<'a, N: RunName, V: Folder, J: Job, G: Gate, K: Knowing, E: Reach<N, Seat = 
         self.begun_of(split)
     }
 
+    fn has_ended(&self) -> bool {
+        self.ended()
+    }
+
     fn fetch_back(&mut self, part: Part, p: u8) -> Result<FlatSheets, Fault> {
         self.fetch(part, p)
     }

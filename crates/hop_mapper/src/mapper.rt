@@ -125,6 +125,13 @@ impl<'a, N: RunName, V: Folder, J: Job, G: Gate, K: Knowing> Mapper<'a, N, V, J,
         self.state.begun(split)
     }
 
+    /// Whether it has ended: its last turn was answered Ended.
+    pub(crate) fn ended(&self) -> bool
+        ensures { result ≡ (mapper_of N.records N.script N.settings self.now).ended }
+    {
+        self.state.has_ended()
+    }
+
     /// The sheets of partition `p` of whole kept spills, in order: the range begins and ends where spills do.
     /// Where the spill folders tell, all their pairs together stand for the range. A fault comes as in a turn.
     pub(crate) fn fetch(&mut self, part: Part, p: u8) -> Result<FlatSheets, Fault>

@@ -7,7 +7,7 @@ ghost use Rattle.hop_machine.specs.home.Conditions.{Safe};
 ghost use Rattle.hop_machine.specs.home.Starts.{new_writer};
 ghost use Rattle.hop_inner.specs.Setups.{parts, setup_of};
 
-use hop_actors::{Actor, Kind, Turn};
+use hop_actors::{Actor, Kind, SnapshotWriter, Turn};
 use hop_base::RunName;
 use hop_inner::Reach;
 use hop_inner::steps::take_cut_on;
@@ -99,4 +99,12 @@ impl<N: RunName, E: Reach<N>> Actor<N, E> for NoWriter<N> {
         self.look(reach);
         Turn::Idle
     }
+}
+
+impl<N: RunName, E: Reach<N>> SnapshotWriter<N, E> for NoWriter<N> {
+    ghost use Rattle.std.specs.Prelude.{refl};
+
+    ghost writer = { λ w. w };
+
+    ghost is_writer = { λ w. refl };
 }

@@ -1,0 +1,4 @@
+pub mod Crews
+pub mod Drains
+pub mod Meets
+pub mod Stops
