@@ -1,7 +1,8 @@
 -- A list that grows by one item for each item that is read off another, or for each number.
-use Rattle.std.proofs.Common.{◌≡◌, ℕ, zero, suc, ◌≤◌, ◌+◌, arith, List, [], ◌∷◌, ◌++◌, length, map, All, Some, None, refl, sym, ap, ◌∙◌, subst}
-use Rattle.std.specs.List.{slice_get, range_with_len}
-use Rattle.std.proofs.lemmas.List.{map-append, length-append, length_push}
+use Rattle.std.proofs.Common.{◌≡◌, ◌<◌, ℕ, zero, suc, ◌+◌, arith, List, [], ◌∷◌, ◌++◌, length, map, All, Some, None, refl, sym, ap, ◌∙◌, subst}
+use Rattle.std.specs.Prelude.{slice_index_or}
+use Rattle.std.specs.List.{slice_get, range_with_len, remove}
+use Rattle.std.proofs.lemmas.List.{map-append, length_push}
 use Rattle.std.proofs.lemmas.List.Elements.{All-push}
 use Rattle.std.proofs.lemmas.List.FromFn.{map-range_with_len_more}
 
@@ -17,9 +18,10 @@ module _ {A : Type 0} where
   at_seam [] ys x = refl
   at_seam (y ∷ xs) ys x = at_seam xs ys x
 
-  -- the items that were read are no more than all
-  pub not_longer : (xs ys zs : List A) → xs ++ ys ≡ zs → length xs ≤ length zs
-  not_longer xs ys zs e = let l = length-append xs ys in let k = ap length e in omega (arith, l, k)
+  -- the first item is taken out
+  pub removed : (xs : List A) (x : A) → 0 < length xs → x ≡ slice_index_or xs 0 x → xs ≡ x ∷ remove xs 0
+  removed [] x l e = absurd (omega arith)
+  removed (y ∷ xs) x l e = λ i. sym e i ∷ xs
 
   some_is : (x m : A) → Some x ≡ Some m → x ≡ m
   some_is x m e = cc

@@ -26,6 +26,10 @@ known_by seat = verdicts_of (words_of seat.items)
 abbrev pub board_of : Seat → List ℕ
 board_of seat = seat.name
 
+-- the folder in which the mapper keeps its spills
+abbrev pub folder_of : {V K : Type 0} → MapperValue V K → V
+folder_of m = m.vault.folder
+
 -- no turn of the mapper failed, and what it holds can be sent over ends of any board
 pub record IsFresh (job : Meaning) (records : List (List ℕ)) (settings : RunSettings) (tells : Bool) {V : Type 0} (m : MapperValue V Seat) : Type 0 where
   pub well : m.failed ≡ false

@@ -9,6 +9,6 @@ pub mod start_laws;
 pub mod world;
 
 pub use counts::lens_of_book;
-pub use mappers::new_mappers;
+pub use mappers::{folders_back, new_mappers};
 pub use reducers::new_reducers;
 pub use world::new_world;
