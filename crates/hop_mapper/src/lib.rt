@@ -8,6 +8,7 @@ mod acting;
 mod beginning;
 mod faults;
 pub mod mapper;
+pub mod no_mapper;
 mod running;
 mod scripted;
 mod spilling;
@@ -17,4 +18,5 @@ mod turning;
 pub mod work;
 
 pub use mapper::Mapper;
+pub use no_mapper::NoMapper;
 pub use work::{Running, Work};

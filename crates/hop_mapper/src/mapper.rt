@@ -4,9 +4,10 @@ ghost use Rattle.hop_mapper.specs.Mappers.{settings_of};
 ghost use Rattle.hop_records.specs.Records.{lens_of};
 ghost use Rattle.hop_shelf.specs.Names.{book_of, rules_of, IsRun};
 
+use crate::no_mapper::NoMapper;
 use crate::state::State;
 use hop_actors::{Fault, Turn};
-use hop_base::{FlatSheets, NoMemory, Part, RunName, Settings};
+use hop_base::{FlatSheets, Part, RunName, Settings};
 use hop_inner::{Knowing, Reach};
 use hop_laws::Job;
 use hop_ports::{Folder, Gate};
@@ -37,6 +38,7 @@ impl<'a, N: RunName, V: Folder, J: Job, G: Gate, K: Knowing> Model for Mapper<'a
 }
 
 impl<'a, N: RunName, V: Folder + Drop, J: Job, G: Gate, K: Knowing> Mapper<'a, N, V, J, G, K> {
+    ghost use Rattle.std.specs.Prelude.{IfErr};
     ghost use Rattle.hop_machine.specs.home.Starts.{new_mapper};
     ghost use Rattle.hop_machine.specs.step.Steps.{Deeds};
     ghost use Rattle.hop_press.specs.Held.{no_lane};
@@ -44,7 +46,8 @@ impl<'a, N: RunName, V: Folder + Drop, J: Job, G: Gate, K: Knowing> Mapper<'a, N
 
     /// A mapper without an attempt, the worker of its vault. The vault has kept nothing, and where its folder
     /// tells, it holds what the name of the run says that the folders held at the start. The press holds
-    /// nothing and has a lane for each reducer. What is borrowed is of the run.
+    /// nothing and has a lane for each reducer. What is borrowed is of the run. Where memory is wanting, the vault
+    /// is handed back.
     pub fn new(
         alloc: Global,
         vault: Vault<V>,
@@ -54,7 +57,7 @@ impl<'a, N: RunName, V: Folder + Drop, J: Job, G: Gate, K: Knowing> Mapper<'a, N
         script: &'a Script,
         gate: &'a G,
         settings: &'a Settings,
-    ) -> Result<Mapper<'a, N, V, J, G, K>, NoMemory>
+    ) -> Result<Mapper<'a, N, V, J, G, K>, NoMapper<V>>
         requires run { IsRun N.job N.records N.settings }
         requires job { J.meaning job.now ≡ N.job }
         requires book { book.now ≡ book_of N.records N.settings }
@@ -69,6 +72,7 @@ impl<'a, N: RunName, V: Folder + Drop, J: Job, G: Gate, K: Knowing> Mapper<'a, N
         ensures held { IfOk result (λ m. m.held ≡ press) }
         ensures fits { IfOk result (λ m. (d : Deeds) → FitsBoard N.job N.records N.settings N.tells K.knows K.board m d) }
         ensures well { IfOk result (λ m. m.failed ≡ false) }
+        ensures back { IfErr result (λ e. e.0 ≡ vault) }
     {
         let state = State::new(alloc, vault, press, book, job, script, gate, settings)?;
         Ok(Mapper { state })

@@ -2,6 +2,7 @@
 ghost use Rattle.std.specs.Prelude.{◌≡◌, ◌+◌, ◌-◌, ◌<◌, ◌≤◌, false, length, slice_index, IfOk, IfErr, OnOk, replicate};
 
 use crate::faults::fetch_fault;
+use crate::no_mapper::NoMapper;
 use crate::spilling::all_known;
 use crate::work::Work;
 use hop_actors::{Fault, Turn};
@@ -217,7 +218,7 @@ impl<'a, N: RunName, V: Folder + Drop, J: Job, G: Gate, K: Knowing> State<'a, N,
     ghost use Rattle.hop_press.specs.Held.{no_lane};
     ghost use Rattle.hop_mapper.specs.Mappers.{mapper_of, settings_of};
 
-    // A mapper without an attempt.
+    // A mapper without an attempt. Where memory is wanting, its vault is handed back.
     pub fn new(
         alloc: Global,
         vault: Vault<V>,
@@ -227,7 +228,7 @@ impl<'a, N: RunName, V: Folder + Drop, J: Job, G: Gate, K: Knowing> State<'a, N,
         script: &'a Script,
         gate: &'a G,
         settings: &'a Settings,
-    ) -> Result<State<'a, N, V, J, G, K>, NoMemory>
+    ) -> Result<State<'a, N, V, J, G, K>, NoMapper<V>>
         requires run { IsRun N.job N.records N.settings }
         requires job { J.meaning job.now ≡ N.job }
         requires book { book.now ≡ book_of N.records N.settings }
@@ -240,8 +241,11 @@ impl<'a, N: RunName, V: Folder + Drop, J: Job, G: Gate, K: Knowing> State<'a, N,
         ensures vault { IfOk result (λ m. m.vault ≡ vault) }
         ensures held { IfOk result (λ m. m.held ≡ press) }
         ensures well { IfOk result (λ m. m.failed ≡ false) }
+        ensures back { IfErr result (λ e. e.0 ≡ vault) }
     {
-        let begun = none_begun(alloc, book.splits())?;
+        let Ok(begun) = none_begun(alloc, book.splits()) else {
+            return Err(NoMapper(vault));
+        };
         Ok(State {
             alloc,
             vault,

@@ -13,11 +13,11 @@ invariant_of-result g c =
       keeps = keeps_nothing R.job R.records R.settings (g.V.Folder.seen c.args.vault.folder).held c.args.vault.rows q.vault;
       told = q.told;
       lanes = ap length q.press ∙ Rattle.std.proofs.lemmas.List.length-replicate R.settings.reducers _;
-      counts = ap length c.in_ok-begun.ensures ∙ Rattle.std.proofs.lemmas.List.length-replicate c.splits.result 0 ∙ splits;
+      counts = ap length c.in-Ok.ensures ∙ Rattle.std.proofs.lemmas.List.length-replicate c.splits.result 0 ∙ splits;
       ready = λ _. ready_none g.row.K.Denot R.settings.reducers c.args.press q.press;
     }
 
 pub returns-clause-made : goal.returns-clause-made
 returns-clause-made g c =
     let R = g.N.RunName in
-    new_is R.records R.script R.settings c.args.vault c.args.press c.in_ok-begun.begun.items c.splits.result c.requires.vault c.requires.press c.in_ok-begun.ensures
+    new_is R.records R.script R.settings c.args.vault c.args.press c.in-Ok.begun.items c.splits.result c.requires.vault c.requires.press c.in-Ok.ensures
