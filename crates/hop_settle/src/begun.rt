@@ -8,7 +8,7 @@ use hop_base::RunName;
 use hop_inner::Reach;
 
 /// Of each split, one more than the greatest attempt that some mapper began.
-pub(crate) fn count_begun<N: RunName, E: Reach<N>, M: Store<N, E>>(
+pub fn count_begun<N: RunName, E: Reach<N>, M: Store<N, E>>(
     mappers: &Vec<M>,
     begun: &mut [u8],
 )

@@ -110,6 +110,7 @@ pub fn settle<
         (place_after result Over, world_of (map M.mapper mappers.new.items) (map D.reducer reducers.new.items) (W.writer writer.new) (E.deeds reach.new)) }
     ensures ran { OnOk result (RanToItsEnd E.exact (Listed []) (world_of (map M.mapper mappers.old.items) (map D.reducer reducers.old.items) (W.writer writer.old) (E.deeds reach.old))
         (world_of (map M.mapper mappers.new.items) (map D.reducer reducers.new.items) (W.writer writer.new) (E.deeds reach.new))) }
+    ensures ends { OnOk result (HasReducers (E.deeds reach.new)) }
     ensures count { (length mappers.new.items ≡ length mappers.old.items) × (length reducers.new.items ≡ length reducers.old.items) }
     ensures well { OnOk result (AreWell M.failed M.fits (E.deeds reach.new).ends.board mappers.new.items) }
     ensures counts { OnOk result ((map M.counts mappers.new.items ≡ map M.counts mappers.old.items) × (W.counts writer.new ≡ W.counts writer.old)) }

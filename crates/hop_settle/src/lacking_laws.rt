@@ -3,7 +3,7 @@ ghost use Rattle.std.specs.Prelude.{◌≡◌, ℕ, ◌<◌, ◌≤◌, ◌^◌,
 ghost use Rattle.std.specs.List.{slice_get};
 ghost use Rattle.hop_base.specs.declared.part.Part.{Part};
 ghost use Rattle.hop_event.specs.History.{winner, upto};
-ghost use Rattle.hop_machine.specs.step.Steps.{Deeds, Runs};
+ghost use Rattle.hop_machine.specs.step.Steps.{Setup, Deeds, Runs};
 ghost use Rattle.hop_machine.specs.step.Setup.{splits_of};
 ghost use Rattle.hop_machine.specs.actors.MapperTurns.{Mapper};
 ghost use Rattle.hop_machine.specs.actors.ReducerTurns.{Reducer, reads_winner, reads_upto};
@@ -15,6 +15,7 @@ ghost use Rattle.hop_machine.specs.run.AllHome.{Ready, IsAtPlace, IsPulling, Pul
 ghost use Rattle.hop_machine.specs.settling.Settling.{AllMet};
 ghost use Rattle.hop_machine.specs.step.Steps.{rules_of};
 ghost use Rattle.hop_actors.specs.Calls.{MayEnd};
+ghost use Rattle.hop_settle.specs.Begun.{AreCounted};
 ghost use Rattle.hop_settle.specs.Crews.{IsSized, TurnsBelow, TurnsLeft};
 ghost use Rattle.hop_settle.specs.Lacking.{Lacks, AreBegunBy};
 
@@ -41,4 +42,9 @@ pub fn pulls_may_begin()
 /// All mappers together have fewer turns left than settling may give them.
 pub fn turns_are_enough()
     ensures { (x : Actors) (d : Deeds) → Ready x d → IsSized d.setup → TurnsBelow (2 ^ 55) x.mappers → TurnsLeft x.mappers d }
+{}
+
+/// The numbers that are counted are those of the attempts that the mappers began.
+pub fn counted_numbers_are_begun()
+    ensures { (x : Actors) (s : Setup) → length x.mappers ≡ s.workers → (begun : List ℕ) → length begun ≡ length s.lens → AreCounted x.mappers begun → AreBegunBy x s begun }
 {}

@@ -5,7 +5,7 @@ mod begun;
 mod catching;
 mod drains;
 mod ending;
-mod lacking_laws;
+pub mod lacking_laws;
 mod late;
 mod meets;
 mod opening;
@@ -17,6 +17,7 @@ mod settling;
 mod turns;
 mod writing;
 
+pub use begun::count_begun;
 pub use catching::catch_up;
 pub use drains::drain_all;
 pub use ending::settle;

@@ -15,6 +15,7 @@ use hop_machine::writer_laws::writer_is_safe;
 use std::marker::{Model, PhantomData};
 
 /// The writer of a run that has no marks, and so no cuts: it looks at each cut lane in its turn, finds nothing and is idle. It has no folder.
+#[derive(Drop)]
 pub struct NoWriter<N: RunName> {
     reducers: u8,
     next: u8,

@@ -113,3 +113,14 @@ pub returns-clause-well : goal.returns-clause-well
 returns-clause-well g c =
     let M = g.M.Actor in
     subst (λ (o : Ends). AreWell M.failed M.fits o.board c.finish_all.new.mappers.items) (sym (c.meet_cuts-2.ensures.ends ∙ c.write_all.ensures.ends ∙ c.meet_cuts.ensures.ends)) c.finish_all.ensures.well
+
+pub returns-clause-ends : goal.returns-clause-ends
+returns-clause-ends g c = λ p inside.
+    let E = g.E.Reach in let e = E.exact in let k = g.M.Store.mapper in let f = g.D.Taker.reducer in let z = g.W.SnapshotWriter.writer in let n = c.work_off in let m = c.finish_all in let q = c.write_all in let x = z c.args.writer.now in
+    let B : World = world_of (map k n.new.mappers.items) (map f n.new.reducers.items) x (E.deeds n.new.reach) in
+    let ns = map k m.new.mappers.items in let us = map f m.new.reducers.items in
+    let D : World = world_of ns us x (E.deeds m.new.reach) in let F : World = world_of ns us x (E.deeds c.meet_cuts.new.reach) in let G : World = world_of ns us (z q.new.writer) (E.deeds q.new.reach) in
+    let same : (E.deeds c.meet_cuts-2.new.reach).setup ≡ (E.deeds n.new.reach).setup =
+    c.meet_cuts-2.ensures.learns.setup ∙ went_same e (Writing, F) (Over, G) (c.in_ok-write_all.ensures.went ns us) ∙ c.meet_cuts.ensures.learns.setup ∙ went_same e (Pulling 0 0, B) (Writing, D) (c.in_ok-finish_all.ensures.went x) in
+    reducer_kept p (E.deeds n.new.reach) (E.deeds c.meet_cuts-2.new.reach) same (c.meet_cuts-2.ensures.ends ∙ q.ensures.ends ∙ c.meet_cuts.ensures.ends ∙ m.ensures.ends)
+    (c.in_ok-work_off.ensures.ends.0 p (subst (λ (s : Setup). p < s.reducers) same inside))
