@@ -3,7 +3,7 @@ ghost use Rattle.std.specs.Prelude.{◌≡◌, ◌≢◌, ◌⊎◌, None, Some,
 ghost use Rattle.hop_base.specs.Files.{Files};
 ghost use Rattle.hop_ports.specs.Clean.{clean_view};
 ghost use Rattle.hop_words.specs.Options.{AskedOptions, asked};
-ghost use Rattle.hop_top.specs.Work.{IsRead};
+ghost use Rattle.hop_top.specs.Work.{IsRead, served};
 
 use hop_base::{NoMemory, Words};
 use hop_ports::{CleanFolder, Folder, GetFault, MemFolder, MemSink, OpenGate, Sink};
@@ -120,7 +120,7 @@ fn usage<F: Folder + Drop>(
     out: &mut MemSink,
 ) -> Outcome
     requires { vec_len spills ≡ 8 }
-    ensures { asked words.now ≡ None → (result ≡ Outcome.Usage) ⊎ (result ≡ Outcome.NoMemory) }
+    ensures { served (asked words.now) ≡ None → (result ≡ Outcome.Usage) ⊎ (result ≡ Outcome.NoMemory) }
 {
     hop_plain(alloc, words, folder, spills, out).answer
 }
@@ -134,7 +134,7 @@ fn over_clean_present(
     out: &mut MemSink,
 ) -> Outcome
     requires { vec_len spills ≡ 8 }
-    ensures { (options : AskedOptions) (files : Files) (file : File) → asked words.now ≡ Some options → (clean_view folder).held ≡ Some files
+    ensures { (options : AskedOptions) (files : Files) (file : File) → served (asked words.now) ≡ Some options → (clean_view folder).held ≡ Some files
         → IsRead options.command files → result ≢ Outcome.InputFailed file }
 {
     hop_plain(alloc, words, folder, spills, out).answer

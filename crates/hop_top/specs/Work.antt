@@ -1,5 +1,5 @@
 -- What each command reads, when it refuses what it read, and what it puts and prints.
-use Rattle.std.specs.Prelude.{◌≡◌, ◌+◌, ◌≤◌, ℕ, List, [], ◌∷◌, ◌++◌, length, Option, None, Some, unwrap_or, option_map, codes, decimal}
+use Rattle.std.specs.Prelude.{◌≡◌, ◌+◌, ◌≤◌, ℕ, Bool, true, false, if◌then◌else◌, option_and_then, List, [], ◌∷◌, ◌++◌, length, Option, None, Some, unwrap_or, option_map, codes, decimal}
 use Rattle.std.specs.List.{AllByRecursion}
 use Rattle.std.specs.FinMap as map
 use Rattle.hop_base.specs.Files.{Files}
@@ -8,7 +8,7 @@ use Rattle.hop_base.specs.Run.{RunSettings}
 use Rattle.hop_laws.specs.Blocking.{blocking_texts}
 use Rattle.hop_ports.specs.Views.{with_file}
 use Rattle.hop_records.specs.Records.{records_of, first_long}
-use Rattle.hop_words.specs.Options.{Asked, block}
+use Rattle.hop_words.specs.Options.{Asked, AskedOptions, block, run, replay}
 use Rattle.hop_top.specs.declared.outcome.File.{File}
 use Rattle.hop_top.specs.declared.outcome.File.TheVariants as which
 use Rattle.hop_top.specs.declared.outcome.Refusal.TheVariants as refusal
@@ -49,14 +49,30 @@ abbrev pub part_files : ℕ → List (List ℕ) → Puts
 part_files p [] = []
 part_files p (text ∷ texts) = (part_name p, text) ∷ part_files (p + 1) texts
 
+-- what is done today of what words may ask for: a run is still to come
+abbrev pub is_served : Asked → Bool
+is_served (block meaning input) = true
+is_served (run meaning input) = false
+is_served (replay meaning input) = false
+
+abbrev pub served_options : AskedOptions → Option AskedOptions
+served_options options = if is_served options.command then Some options else None
+
+abbrev pub served : Option AskedOptions → Option AskedOptions
+served asked = option_and_then served_options asked
+
 -- what a command reads, in order
 abbrev pub reads_of : Asked → List Wanted
 reads_of (block meaning input) = record { file = which.Input; name = input; most = 16777216 } ∷ []
+reads_of (run meaning input) = []
+reads_of (replay meaning input) = []
 
 -- the first refusal of what was read
 abbrev pub refusal_of : Asked → RunSettings → Files → Option Outcome
 refusal_of (block meaning input) settings files =
     option_map (λ index. outcome.InputRefused (refusal.RecordTooLong index)) (first_long (records_of (bytes_of files input)))
+refusal_of (run meaning input) settings files = None
+refusal_of (replay meaning input) settings files = None
 
 -- what `block` prints at its end
 abbrev pub block_summary : ℕ → ℕ → List ℕ
@@ -73,10 +89,14 @@ block_work meaning reducers input = record {
 -- what the command may do
 abbrev pub Works : Asked → RunSettings → Files → Work → Type 0
 Works (block meaning input) settings files work = work ≡ block_work meaning settings.reducers (bytes_of files input)
+Works (run meaning input) settings files work = ⊥
+Works (replay meaning input) settings files work = ⊥
 
 -- a file that the command may put while it runs
 abbrev pub MayPutEarly : Asked → RunSettings → Files → List ℕ × List ℕ → Type 0
 MayPutEarly (block meaning input) settings files file = ⊥
+MayPutEarly (run meaning input) settings files file = ⊥
+MayPutEarly (replay meaning input) settings files file = ⊥
 
 -- the file is there and isn't too long
 pub record IsReadable (files : Files) (wanted : Wanted) : Type 0 where
