@@ -2,6 +2,7 @@
 #![tactic(auto)]
 
 pub mod block;
+pub mod check;
 pub mod outcome;
 pub mod puts;
 pub mod reads;

@@ -4,6 +4,7 @@ ghost use Rattle.hop_words.specs.Options.{HasFiles, asked, options_of};
 ghost use Rattle.hop_top.specs.Complete.{IsComplete};
 ghost use Rattle.hop_top.specs.Faults.{FaultsAnswered};
 ghost use Rattle.hop_top.specs.Meets.{Meets};
+ghost use Rattle.hop_top.specs.Spilling.{Spilling};
 ghost use Rattle.hop_top.specs.Work.{served, served_options};
 
 use crate::block::block;
@@ -26,7 +27,7 @@ pub struct Handed<A, F, V> {
 // Does what the options ask for.
 fn run<F: Folder, O: Sink>(alloc: Global, options: &Options, folder: &mut F, out: &mut O) -> Outcome
     requires { HasFiles options.now }
-    ensures meets { Meets (F.seen folder.old) (F.seen folder.new) (O.seen out.old) (O.seen out.new) (served_options (options_of options.now)) result }
+    ensures meets { (s : Spilling) → Meets (F.seen folder.old) (F.seen folder.new) (O.seen out.old) (O.seen out.new) s (served_options (options_of options.now)) result }
     ensures answered { FaultsAnswered (F.seen folder.old) (F.seen folder.new) (O.seen out.old) (O.seen out.new) result }
 {
     let settings = &options.settings;
@@ -38,7 +39,7 @@ fn run<F: Folder, O: Sink>(alloc: Global, options: &Options, folder: &mut F, out
 
 // Does what the words ask for.
 fn answer<F: Folder, O: Sink>(alloc: Global, words: &Words, folder: &mut F, out: &mut O) -> Outcome
-    ensures meets { Meets (F.seen folder.old) (F.seen folder.new) (O.seen out.old) (O.seen out.new) (served (asked words.now)) result }
+    ensures meets { (s : Spilling) → Meets (F.seen folder.old) (F.seen folder.new) (O.seen out.old) (O.seen out.new) s (served (asked words.now)) result }
     ensures answered { FaultsAnswered (F.seen folder.old) (F.seen folder.new) (O.seen out.old) (O.seen out.new) result }
 {
     match read_words(alloc, words) {
@@ -61,9 +62,9 @@ pub fn hop_plain<F: Folder, V: Folder, O: Sink>(
     out: &mut O,
 ) -> Handed<Outcome, F, V>
     requires { vec_len spills ≡ 8 }
-    ensures meets { Meets (F.seen folder) (F.seen result.folder) (O.seen out.old) (O.seen out.new) (served (asked words.now)) result.answer }
+    ensures meets { Meets (F.seen folder) (F.seen result.folder) (O.seen out.old) (O.seen out.new) (record { before = map V.seen spills.items; after = map V.seen result.spills.items }) (served (asked words.now)) result.answer }
     ensures answered { FaultsAnswered (F.seen folder) (F.seen result.folder) (O.seen out.old) (O.seen out.new) result.answer }
-    ensures complete { IsComplete (F.seen folder) (F.seen result.folder) (O.seen out.old) (O.seen out.new) (served (asked words.now)) result.answer }
+    ensures complete { IsComplete (F.seen folder) (F.seen result.folder) (O.seen out.old) (O.seen out.new) (record { before = map V.seen spills.items; after = map V.seen result.spills.items }) (served (asked words.now)) result.answer }
     ensures spills { map V.seen result.spills.items ≡ map V.seen spills.items }
 {
     let mut folder = folder;
@@ -92,9 +93,9 @@ where
     O: Sink,
     G: Gate + Sync,
     requires { vec_len spills ≡ 8 }
-    ensures meets { Meets (F.seen folder) (F.seen result.folder) (O.seen out.old) (O.seen out.new) (served (asked words.now)) result.answer }
+    ensures meets { Meets (F.seen folder) (F.seen result.folder) (O.seen out.old) (O.seen out.new) (record { before = map V.seen spills.items; after = map V.seen result.spills.items }) (served (asked words.now)) result.answer }
     ensures answered { FaultsAnswered (F.seen folder) (F.seen result.folder) (O.seen out.old) (O.seen out.new) result.answer }
-    ensures complete { IsComplete (F.seen folder) (F.seen result.folder) (O.seen out.old) (O.seen out.new) (served (asked words.now)) result.answer }
+    ensures complete { IsComplete (F.seen folder) (F.seen result.folder) (O.seen out.old) (O.seen out.new) (record { before = map V.seen spills.items; after = map V.seen result.spills.items }) (served (asked words.now)) result.answer }
     ensures spills { map V.seen result.spills.items ≡ map V.seen spills.items }
 {
     let _ = rt;
