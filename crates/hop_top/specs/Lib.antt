@@ -7,4 +7,5 @@ pub mod Reading
 pub mod Report
 pub mod Runs
 pub mod Spilling
+pub mod Stops
 pub mod Work

@@ -94,21 +94,31 @@ pub record AreSpilled (g : Given) (t : Traced) (s : Spilling) : Type 0 where
 
 -- ---- what is put and printed
 
--- what is printed at the end
+-- what is printed at the end of a run of so many records, splits, partitions, snapshots, attempts, ranges that were pulled, and ranges that were
+-- taken from lanes while it was settled
+abbrev pub summary_text : ℕ → ℕ → ℕ → ℕ → ℕ → ℕ → ℕ → List ℕ
+summary_text records splits parts snapshots attempts pulled settled =
+    codes "done records=" ++ (decimal records
+    ++ (codes " splits=" ++ (decimal splits
+    ++ (codes " parts=" ++ (decimal parts
+    ++ (codes " snapshots=" ++ (decimal snapshots
+    ++ (codes " attempts=" ++ (decimal attempts
+    ++ (codes " pulled=" ++ (decimal pulled
+    ++ (codes " settled=" ++ (decimal settled
+    ++ codes "\n")))))))))))))
+
 abbrev pub run_summary : Given → Traced → List ℕ
 run_summary g t =
-    codes "done records=" ++ (decimal (length g.records)
-    ++ (codes " splits=" ++ (decimal (length (rules_given g).lens)
-    ++ (codes " parts=" ++ (decimal g.settings.reducers
-    ++ (codes " snapshots=" ++ (decimal (g.settings.reducers * length g.settings.marks)
-    ++ (codes " attempts=" ++ (decimal (sum t.begun)
-    ++ (codes " pulled=" ++ (decimal (kept_in_all Pulled (in_order t))
-    ++ (codes " settled=" ++ (decimal (kept_in_all Settled (in_order t))
-    ++ codes "\n")))))))))))))
+    summary_text (length g.records) (length (rules_given g).lens) g.settings.reducers (g.settings.reducers * length g.settings.marks)
+    (sum t.begun) (kept_in_all Pulled (in_order t)) (kept_in_all Settled (in_order t))
+
+-- the name of the trace
+abbrev pub trace_name : List ℕ
+trace_name = codes "trace"
 
 -- a part file for each text, and the trace
 abbrev pub run_files : Given → Traced → List (List ℕ) → Puts
-run_files g t texts = part_files 0 texts ++ (codes "trace", trace_text g t) ∷ []
+run_files g t texts = part_files 0 texts ++ (trace_name, trace_text g t) ∷ []
 
 -- A run that came to its end. Its histories are finished, agree and are delivered, and are those of the play; where the spill folders
 -- tell, its texts are those of the blocking job.

@@ -37,8 +37,8 @@ fn part_name(alloc: Global, p: u8) -> Result<String, AllocError>
     format!(in alloc; "part-{p}")
 }
 
-// The texts as part files, by partition.
-fn part_files(alloc: Global, texts: Texts) -> Result<Vec<NamedFile>, NoMemory>
+/// The texts as part files, by partition.
+pub(crate) fn part_files(alloc: Global, texts: Texts) -> Result<Vec<NamedFile>, NoMemory>
     requires { length texts ≤ 8 }
     ensures { IfOk result (λ files. files_in files.items ≡ part_files 0 texts) }
 {

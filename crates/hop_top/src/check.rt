@@ -1,7 +1,7 @@
 //! What was read for a run is cut and tested.
 ghost use Rattle.std.specs.Prelude.{◌≡◌, ◌≤◌, None, IfOk, IfErr, OnOk, length, vec_len};
 ghost use Rattle.hop_words.specs.Options.{settings_of};
-ghost use Rattle.hop_records.specs.Records.{IsBook, spill_count};
+ghost use Rattle.hop_records.specs.Records.{IsBook};
 ghost use Rattle.hop_script.specs.Script.{script_of};
 ghost use Rattle.hop_script.specs.TurnLines.{turns_of};
 ghost use Rattle.hop_top.specs.Plans.{IsRefusal, actors_in, book_read, input_refusal, run_refusal, script_refusal, turns_refusal};

@@ -3,6 +3,7 @@
 
 pub mod block;
 pub mod check;
+pub mod ending;
 pub mod outcome;
 pub mod puts;
 pub mod reads;
