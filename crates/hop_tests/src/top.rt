@@ -3,9 +3,10 @@ ghost use Rattle.std.specs.Prelude.{◌≡◌, ◌≢◌, ◌⊎◌, None, Some,
 ghost use Rattle.hop_base.specs.Files.{Files};
 ghost use Rattle.hop_ports.specs.Clean.{clean_view};
 ghost use Rattle.hop_words.specs.Options.{AskedOptions, asked};
-ghost use Rattle.hop_top.specs.Work.{IsRead};
+ghost use Rattle.hop_top.specs.Reading.{AreReadable, reads_of};
+ghost use Rattle.hop_top.specs.Work.{served};
 
-use hop_base::{NoMemory, Words};
+use hop_base::{NoMemory, Part, Words};
 use hop_ports::{CleanFolder, Folder, GetFault, MemFolder, MemSink, OpenGate, Sink};
 use hop_top::{File, Handed, Outcome, Refusal, fault_line, hop, hop_plain, status};
 use std::alloc::{AllocError, Global};
@@ -120,7 +121,7 @@ fn usage<F: Folder + Drop>(
     out: &mut MemSink,
 ) -> Outcome
     requires { vec_len spills ≡ 8 }
-    ensures { asked words.now ≡ None → (result ≡ Outcome.Usage) ⊎ (result ≡ Outcome.NoMemory) }
+    ensures { served (asked words.now) ≡ None → (result ≡ Outcome.Usage) ⊎ (result ≡ Outcome.NoMemory) }
 {
     hop_plain(alloc, words, folder, spills, out).answer
 }
@@ -134,8 +135,8 @@ fn over_clean_present(
     out: &mut MemSink,
 ) -> Outcome
     requires { vec_len spills ≡ 8 }
-    ensures { (options : AskedOptions) (files : Files) (file : File) → asked words.now ≡ Some options → (clean_view folder).held ≡ Some files
-        → IsRead options.command files → result ≢ Outcome.InputFailed file }
+    ensures { (options : AskedOptions) (files : Files) (file : File) → served (asked words.now) ≡ Some options → (clean_view folder).held ≡ Some files
+        → AreReadable files (reads_of options) → result ≢ Outcome.InputFailed file }
 {
     hop_plain(alloc, words, folder, spills, out).answer
 }
@@ -361,6 +362,66 @@ fn passes_a_gate(rt: HostRuntime) -> Result<(), Fail> {
     let mut out = MemSink::new(alloc, Vec::new(alloc));
     let handed = hop(&rt, alloc, &words, folder, spills, &mut out, &OpenGate);
     assert_eq!(rt; handed.answer, Outcome::InputFailed { file: File::Input });
+    Ok(())
+}
+
+#[test]
+fn says_how_a_run_ended(rt: HostRuntime) -> Result<(), Fail> {
+    let at = Part {
+        split: 0,
+        attempt: 0,
+        from: 2,
+        to: 3,
+    };
+    let worker = 1;
+    let file = File::Turns;
+    let damaged = Outcome::SpillDamaged {
+        worker,
+        at,
+        kept: [0; 32],
+        found: [1; 32],
+    };
+    let place = 41;
+    let splits = Refusal::TooManySplits { count: 1025 };
+    let spills = Refusal::TooManySpills { count: 65_537 };
+    let line = Outcome::ScriptRefused { file, line: 12 };
+    let collides = Outcome::SpillCollides { worker, at, place };
+    let cases: [(Outcome, u8, &str); 7] = [
+        (
+            Outcome::InputRefused(splits),
+            3,
+            "hop: 1025 splits are too many\n",
+        ),
+        (
+            Outcome::InputRefused(spills),
+            3,
+            "hop: 65537 spills are too many\n",
+        ),
+        (
+            line,
+            4,
+            "hop: line 12 of the turn list is not understood\n",
+        ),
+        (
+            Outcome::RetriesSpent { split: 3 },
+            5,
+            "hop: split 3 has spent its attempts\n",
+        ),
+        (
+            Outcome::SpillFailed { worker },
+            7,
+            "hop: spill folder 1 failed\n",
+        ),
+        (damaged, 8, "hop: a spill of worker 1 is damaged\n"),
+        (collides, 8, "hop: a spill of worker 1 is no spill\n"),
+    ];
+    for (outcome, number, line) in cases {
+        assert_eq!(rt; status(&outcome), number);
+        assert_eq!(rt;
+            fault_line(rt.alloc(), &outcome)?.as_slice(),
+            line.as_bytes()
+        );
+    }
     Ok(())
 }
 

@@ -1,7 +1,7 @@
 //! The words of command lines, by a table of the forms and ranges.
-use hop_base::{NoMemory, Words};
+use hop_base::{NoMemory, Text, Words};
 use hop_laws::Job;
-use hop_words::{Command, WordsFault, file_name, read_words};
+use hop_words::{Command, Options, WordsFault, read_words};
 use std::alloc::{AllocError, Global};
 use std::test::Fail;
 
@@ -13,24 +13,56 @@ fn words(alloc: Global, line: &[&str]) -> Result<Words, NoMemory> {
     Ok(words)
 }
 
-// The job, the input and the number of reducers that the words ask for, as one text.
+// The command, its job, its input and the number of reducers.
 fn asked(alloc: Global, line: &[&str]) -> Result<String, Fail> {
     let words = words(alloc, line)?;
     match read_words(alloc, &words) {
-        Ok(options) => {
-            let Command::Block { job, input } = &options.command;
-            let name = job.name(alloc)?;
-            let reducers = options.settings.reducers;
-            let text = name_of(name.as_slice());
-            let input = file_name(input);
-            Ok(format!(in alloc; "{text} {input} {reducers}")?)
-        }
+        Ok(options) => command_shown(alloc, &options),
         Err(WordsFault::Usage) => Ok(String::new(alloc)),
         Err(WordsFault::NoMemory) => Err(NoMemory)?,
     }
 }
 
-fn name_of(bytes: &[u8]) -> &str {
+fn command_shown(alloc: Global, options: &Options) -> Result<String, Fail> {
+    let (word, job, input) = match &options.command {
+        Command::Block { job, input } => ("block", job, input),
+        Command::Run { job, input } => ("run", job, input),
+        Command::Replay { job, input } => ("replay", job, input),
+    };
+    let name = job.name(alloc)?;
+    let name = text_of(name.as_slice());
+    let input = text_of(input.as_slice());
+    let reducers = options.settings.reducers;
+    Ok(format!(in alloc; "{word} {name} {input} {reducers}")?)
+}
+
+// The sizes of a run and its files.
+fn sizes(alloc: Global, line: &[&str]) -> Result<String, Fail> {
+    let words = words(alloc, line)?;
+    match read_words(alloc, &words) {
+        Ok(options) => sizes_shown(alloc, &options),
+        Err(WordsFault::Usage) => Ok(String::new(alloc)),
+        Err(WordsFault::NoMemory) => Err(NoMemory)?,
+    }
+}
+
+fn sizes_shown(alloc: Global, options: &Options) -> Result<String, Fail> {
+    let settings = &options.settings;
+    let (split, spill, lane) = (settings.split, settings.spill, settings.lane);
+    let (workers, attempts) = (settings.workers, settings.attempts);
+    let script = file_shown(&options.script);
+    let turns = file_shown(&options.turns);
+    Ok(format!(in alloc; "{split} {spill} {workers} {attempts} {lane} {script} {turns}")?)
+}
+
+fn file_shown(name: &Option<Text>) -> &str {
+    match name {
+        Some(name) => text_of(name.as_slice()),
+        None => "-",
+    }
+}
+
+fn text_of(bytes: &[u8]) -> &str {
     str::from_utf8(bytes).unwrap_or("?")
 }
 
@@ -47,24 +79,24 @@ fn letters(alloc: Global, count: usize) -> Result<String, AllocError> {
 fn reads_the_forms_of_block(rt: HostRuntime) -> Result<(), Fail> {
     let alloc = rt.alloc();
     let cases: [(&[&str], &str); 12] = [
-        (&["block", "wc", "in.txt"], "wc in.txt 1"),
-        (&["block", "sum", "a_b-c.9"], "sum a_b-c.9 1"),
-        (&["block", "max", "_"], "max _ 1"),
-        (&["block", "top", "in"], "top:10 in 1"),
-        (&["block", "top", "in", "--k", "3"], "top:3 in 1"),
-        (&["block", "top", "in", "--k=1000"], "top:1000 in 1"),
+        (&["block", "wc", "in.txt"], "block wc in.txt 1"),
+        (&["block", "sum", "a_b-c.9"], "block sum a_b-c.9 1"),
+        (&["block", "max", "_"], "block max _ 1"),
+        (&["block", "top", "in"], "block top:10 in 1"),
+        (&["block", "top", "in", "--k", "3"], "block top:3 in 1"),
+        (&["block", "top", "in", "--k=1000"], "block top:1000 in 1"),
         (
             &["--reducers", "8", "block", "--k=1", "top", "in"],
-            "top:1 in 8",
+            "block top:1 in 8",
         ),
         (
             &["block", "wc", "in", "--reducers=00000000000000000002"],
-            "wc in 2",
+            "block wc in 2",
         ),
-        (&["block", "wc", "--", "in"], "wc in 1"),
-        (&["--", "block", "wc", "in"], "wc in 1"),
-        (&["block", "wc", "in", "--"], "wc in 1"),
-        (&["block", "wc", "7"], "wc 7 1"),
+        (&["block", "wc", "--", "in"], "block wc in 1"),
+        (&["--", "block", "wc", "in"], "block wc in 1"),
+        (&["block", "wc", "in", "--"], "block wc in 1"),
+        (&["block", "wc", "7"], "block wc 7 1"),
     ];
     for (line, wanted) in cases {
         assert_eq!(rt; asked(alloc, line)?.as_str(), wanted, "at {line:?}");
@@ -73,9 +105,61 @@ fn reads_the_forms_of_block(rt: HostRuntime) -> Result<(), Fail> {
 }
 
 #[test]
+fn reads_the_forms_of_runs(rt: HostRuntime) -> Result<(), Fail> {
+    let alloc = rt.alloc();
+    let cases: [(&[&str], &str, &str); 5] = [
+        (&["run", "wc", "in"], "run wc in 1", "16384 1000 2 4 2 - -"),
+        (
+            &["run", "top", "in", "--k=3", "--reducers=8", "--script", "s"],
+            "run top:3 in 8",
+            "16384 1000 2 4 2 s -",
+        ),
+        (
+            &["run", "wc", "in", "--split=16777216", "--spill=65535"],
+            "run wc in 1",
+            "16777216 65535 2 4 2 - -",
+        ),
+        (
+            &[
+                "run",
+                "wc",
+                "in",
+                "--workers=8",
+                "--attempts=16",
+                "--lane=64",
+            ],
+            "run wc in 1",
+            "16384 1000 8 16 64 - -",
+        ),
+        (
+            &[
+                "--turns",
+                "t",
+                "replay",
+                "sum",
+                "in",
+                "--split=1",
+                "--spill=1",
+                "--workers=1",
+                "--attempts=1",
+                "--lane=1",
+                "--script=s",
+            ],
+            "replay sum in 1",
+            "1 1 1 1 1 s t",
+        ),
+    ];
+    for (line, command, files) in cases {
+        assert_eq!(rt; asked(alloc, line)?.as_str(), command, "at {line:?}");
+        assert_eq!(rt; sizes(alloc, line)?.as_str(), files, "at {line:?}");
+    }
+    Ok(())
+}
+
+#[test]
 fn refuses_what_is_no_command(rt: HostRuntime) -> Result<(), Fail> {
     let alloc = rt.alloc();
-    let cases: [&[&str]; 22] = [
+    let cases: [&[&str]; 24] = [
         &[],
         &["block"],
         &["block", "wc"],
@@ -83,8 +167,10 @@ fn refuses_what_is_no_command(rt: HostRuntime) -> Result<(), Fail> {
         &["block", "sort", "in"],
         &["Block", "wc", "in"],
         &["run", "wc"],
-        &["run", "wc", "in"],
         &["run", "wc", "in", "--k", "0"],
+        &["run", "wc", "in", "--turns", "t"],
+        &["replay", "wc", "in"],
+        &["block", "wc", "in", "--script", "s"],
         &["run", "wc", "in", "--marks", "5,5"],
         &["gen", "1", "1", "g"],
         &["block", "wc", "in", "--marks", "5"],
@@ -108,7 +194,18 @@ fn refuses_what_is_no_command(rt: HostRuntime) -> Result<(), Fail> {
 #[test]
 fn refuses_what_is_no_value(rt: HostRuntime) -> Result<(), Fail> {
     let alloc = rt.alloc();
-    let cases: [&[&str]; 13] = [
+    let cases: [&[&str]; 24] = [
+        &["run", "wc", "in", "--split", "0"],
+        &["run", "wc", "in", "--split", "16777217"],
+        &["run", "wc", "in", "--spill", "65536"],
+        &["run", "wc", "in", "--workers", "9"],
+        &["run", "wc", "in", "--attempts", "17"],
+        &["run", "wc", "in", "--lane", "65"],
+        &["run", "wc", "in", "--script", ".s"],
+        &["run", "wc", "in", "--script=s", "--script=s"],
+        &["replay", "wc", "in", "--turns", ""],
+        &["replay", "wc", "in", "--turns", "t", "--turns", "t"],
+        &["replay", "wc", "in", "--turns", "t", "--lane", "0"],
         &["block", "wc", "in", "--k"],
         &["block", "wc", "in", "--k", "--reducers", "2"],
         &["block", "wc", "in", "--k", "--"],

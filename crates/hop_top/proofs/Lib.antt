@@ -2,3 +2,4 @@ pub mod CompleteLaws
 pub mod MeetsLemmas
 pub mod PartLaws
 pub mod PutsLemmas
+pub mod RefusalLaws

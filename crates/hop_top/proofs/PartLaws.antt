@@ -6,7 +6,7 @@ use Rattle.std.proofs.lemmas.List.FromFn.{length-range_with_len}
 use Rattle.hop_base.specs.Meaning.{Meaning}
 use Rattle.hop_laws.specs.Blocking.{blocking, blocking_texts}
 use Rattle.hop_records.specs.Records.{records_of, split_count, with_byte}
-use Rattle.hop_top.specs.Work.{part_files, part_name}
+use Rattle.hop_top.specs.Puts.{part_files, part_name}
 
 -- one more text
 pub part_files-push : (p : ℕ) (texts : List (List ℕ)) (text : List ℕ) → part_files p (texts ++ text ∷ []) ≡ part_files p texts ++ (part_name (p + length texts), text) ∷ []

@@ -8,8 +8,7 @@ use Rattle.hop_ports.specs.Views.{FolderView, with_file}
 use Rattle.hop_ports.specs.Causes.{OnlyPut, PutCause}
 use Rattle.hop_ports.specs.declared.folder.PutFault.{PutFault}
 use Rattle.hop_ports.specs.declared.folder.PutFault.TheVariants.{Failed, NoMemory}
-use Rattle.hop_top.specs.Work.{Puts, with_files}
-use Rattle.hop_top.specs.Puts.{PutsCause, files_in, file_of}
+use Rattle.hop_top.specs.Puts.{Puts, PutsCause, files_in, file_of, with_files}
 use Rattle.hop_top.specs.declared.puts.NamedFile.{NamedFile}
 
 -- one more file

@@ -1,24 +1,46 @@
 -- When nothing stands in the way of a command.
-use Rattle.std.specs.Prelude.{◌≡◌, ◌⊎◌, Option, Some}
+use Rattle.std.specs.Prelude.{◌≡◌, ◌⊎◌, ℕ, ◌<◌, IsTrue, Option, Some, length}
+use Rattle.std.specs.List.{slice_get}
 use Rattle.hop_base.specs.Causes.{Rose}
 use Rattle.hop_base.specs.Files.{Files}
+use Rattle.hop_event.specs.Failing.{IsDoomed}
 use Rattle.hop_ports.specs.Views.{FolderView, SinkView}
-use Rattle.hop_words.specs.Options.{AskedOptions}
-use Rattle.hop_top.specs.Work.{Accepted}
+use Rattle.hop_words.specs.Options.{Asked, AskedOptions, block, run, replay}
+use Rattle.hop_top.specs.Plans.{Given}
+use Rattle.hop_top.specs.Runs.{rules_given}
+use Rattle.hop_top.specs.Spilling.{Spilling, all_tell}
+use Rattle.hop_top.specs.Work.{Accepted, run_given}
 use Rattle.hop_top.specs.declared.outcome.Outcome.{Outcome}
 use Rattle.hop_top.specs.declared.outcome.Outcome.TheVariants as outcome
 
-module _ (old new : FolderView) (out_old out_new : SinkView) where
+-- each attempt of the split that may be begun fails by the script
+pub record IsDoomedIn (g : Given) (split : ℕ) : Type 0 where
+  pub is_split : split < length (rules_given g).lens
+  pub doomed : IsDoomed g.script g.settings.attempts split
+
+-- some split of a run is so
+abbrev pub SomeDoomed : Asked → AskedOptions → Files → Type 0
+SomeDoomed (block job input) options files = ⊥
+SomeDoomed (run job input) options files = (split : ℕ) × IsDoomedIn (run_given options job input files) split
+SomeDoomed (replay job input) options files = (split : ℕ) × IsDoomedIn (run_given options job input files) split
+
+module _ (old new : FolderView) (out_old out_new : SinkView) (s : Spilling) where
   -- no count of faults rose
   pub record NoneRose : Type 0 where
     pub gets : Rose old.gets new.gets → ⊥
     pub puts : Rose old.puts new.puts → ⊥
     pub faults : Rose out_old.faults out_new.faults → ⊥
+    pub spills : (w : ℕ) (a b : FolderView) → slice_get s.before w ≡ Some a → slice_get s.after w ≡ Some b → (Rose a.gets b.gets → ⊥) × (Rose a.puts b.puts → ⊥)
 
-  -- where the folder tells, the words, the files and the records are accepted and no count of faults rose, all is done or
-  -- memory was wanting
+  -- Where the folders tell, the words, the files and the records are accepted, no split is doomed and no count of faults rose, all is done or
+  -- memory was wanting.
   abbrev pub IsComplete : Option AskedOptions → Outcome → Type 0
   IsComplete asked answer =
-      (options : AskedOptions) (files : Files) → asked ≡ Some options → old.held ≡ Some files
-      → Accepted options.command options.settings files → NoneRose
+      (options : AskedOptions) (files : Files) → asked ≡ Some options → old.held ≡ Some files → IsTrue (all_tell options.settings.workers s.before)
+      → Accepted options files → (SomeDoomed options.command options files → ⊥) → NoneRose
       → (answer ≡ outcome.Done) ⊎ (answer ≡ outcome.NoMemory)
+
+  -- Where some split is doomed, it is never done.
+  abbrev pub IsNeverDone : Option AskedOptions → Outcome → Type 0
+  IsNeverDone asked answer =
+      (options : AskedOptions) (files : Files) → asked ≡ Some options → old.held ≡ Some files → SomeDoomed options.command options files → answer ≡ outcome.Done → ⊥

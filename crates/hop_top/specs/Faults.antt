@@ -34,6 +34,13 @@ module _ (old new : FolderView) (out_old out_new : SinkView) where
   FaultsAnswered (outcome.InputFailed file) = OnlyGetsFailed
   FaultsAnswered (outcome.InputRefused (refusal.TooLong file)) = OnlyGetsFailed
   FaultsAnswered (outcome.InputRefused (refusal.RecordTooLong index)) = NoneFailed
+  FaultsAnswered (outcome.InputRefused (refusal.TooManySplits count)) = NoneFailed
+  FaultsAnswered (outcome.InputRefused (refusal.TooManySpills count)) = NoneFailed
+  FaultsAnswered (outcome.ScriptRefused file line) = NoneFailed
+  FaultsAnswered (outcome.RetriesSpent split) = NoneFailed
   FaultsAnswered outcome.FolderFailed = OnlyPutsFailed
+  FaultsAnswered (outcome.SpillFailed worker) = NoneFailed
+  FaultsAnswered (outcome.SpillDamaged worker at kept found) = NoneFailed
+  FaultsAnswered (outcome.SpillCollides worker at place) = NoneFailed
   FaultsAnswered outcome.SayFailed = OnlyWritesFailed
   FaultsAnswered outcome.NoMemory = NoneFailed

@@ -1,7 +1,11 @@
 pub mod Complete
 pub mod Faults
 pub mod Meets
+pub mod Plans
 pub mod Puts
-pub mod Reads
+pub mod Reading
 pub mod Report
+pub mod Runs
+pub mod Spilling
+pub mod Stops
 pub mod Work

@@ -1,14 +1,38 @@
 -- Files that are put one after another.
-use Rattle.std.specs.Prelude.{◌≡◌, ◌⊎◌, ℕ, List, map, take, string_bytes}
+use Rattle.std.specs.Prelude.{◌≡◌, ◌⊎◌, ◌+◌, ℕ, List, [], ◌∷◌, ◌++◌, map, take, Option, codes, decimal, string_bytes}
 use Rattle.hop_base.specs.Causes.{Rose}
-use Rattle.hop_ports.specs.Views.{FolderView, SinkView, appended}
+use Rattle.hop_base.specs.Files.{Files}
+use Rattle.hop_ports.specs.Views.{FolderView, SinkView, appended, with_file}
 use Rattle.hop_ports.specs.Causes.{TookPrefix}
 use Rattle.hop_ports.specs.declared.folder.PutFault.{PutFault}
 use Rattle.hop_ports.specs.declared.folder.PutFault.TheVariants.{Failed, NoMemory}
-use Rattle.hop_top.specs.Work.{Puts, with_files}
 use Rattle.hop_top.specs.declared.puts.NamedFile.{NamedFile}
 use Rattle.hop_top.specs.declared.outcome.Outcome.{Outcome}
 use Rattle.hop_top.specs.declared.outcome.Outcome.TheVariants as outcome
+
+-- files by name, in the order in which they are put
+abbrev pub Puts : Type 0
+Puts = List (List ℕ × List ℕ)
+
+-- what a command does: the files that it puts while it runs, those that it puts at its end, and what it prints
+pub record Work : Type 0 where
+  pub early : Puts
+  pub files : Puts
+  pub summary : List ℕ
+
+-- the same files, with these put one after another
+abbrev pub with_files : Option Files → Puts → Option Files
+with_files held [] = held
+with_files held (file ∷ others) = with_files (with_file held file.0 file.1) others
+
+-- the name of the part file of partition p
+abbrev pub part_name : ℕ → List ℕ
+part_name p = codes "part-" ++ decimal p
+
+-- each text under the name of its partition's part file, counted from p
+abbrev pub part_files : ℕ → List (List ℕ) → Puts
+part_files p [] = []
+part_files p (text ∷ texts) = (part_name p, text) ∷ part_files (p + 1) texts
 
 -- a file by its name
 abbrev pub file_of : NamedFile → List ℕ × List ℕ

@@ -1,62 +1,55 @@
--- What each command reads, when it refuses what it read, and what it puts and prints.
-use Rattle.std.specs.Prelude.{◌≡◌, ◌+◌, ◌≤◌, ℕ, List, [], ◌∷◌, ◌++◌, length, Option, None, Some, unwrap_or, option_map, codes, decimal}
-use Rattle.std.specs.List.{AllByRecursion}
-use Rattle.std.specs.FinMap as map
+-- When each command refuses what it read, and what it puts and prints.
+use Rattle.std.specs.Prelude.{◌≡◌, ℕ, Bool, true, false, if◌then◌else◌, List, [], ◌++◌, length, Option, None, Some, option_and_then, codes, decimal}
 use Rattle.hop_base.specs.Files.{Files}
 use Rattle.hop_base.specs.Meaning.{Meaning}
-use Rattle.hop_base.specs.Run.{RunSettings}
 use Rattle.hop_laws.specs.Blocking.{blocking_texts}
-use Rattle.hop_ports.specs.Views.{with_file}
-use Rattle.hop_records.specs.Records.{records_of, first_long}
-use Rattle.hop_words.specs.Options.{Asked, block}
-use Rattle.hop_top.specs.declared.outcome.File.{File}
-use Rattle.hop_top.specs.declared.outcome.File.TheVariants as which
-use Rattle.hop_top.specs.declared.outcome.Refusal.TheVariants as refusal
+use Rattle.hop_records.specs.Records.{records_of}
+use Rattle.hop_words.specs.Options.{Asked, AskedOptions, block, run, replay}
+use Rattle.hop_top.specs.Plans.{Given, given_by, long_refusal, run_refusal}
+use Rattle.hop_top.specs.Puts.{Work, part_files}
+use Rattle.hop_top.specs.Reading.{AreReadable, RunTexts, bytes_of, reads_of, texts_held}
+use Rattle.hop_top.specs.Runs.{IsSpent, RunWorks}
+use Rattle.hop_top.specs.Spilling.{Spilling}
 use Rattle.hop_top.specs.declared.outcome.Outcome.{Outcome}
-use Rattle.hop_top.specs.declared.outcome.Outcome.TheVariants as outcome
 
--- a file that a command reads, with the greatest number of bytes that it may have
-pub record Wanted : Type 0 where
-  pub file : File
-  pub name : List ℕ
-  pub most : ℕ
+-- ---- what is done today of what words may ask for: a run is still to come
 
--- files by name, in the order in which they are put
-abbrev pub Puts : Type 0
-Puts = List (List ℕ × List ℕ)
+abbrev pub is_served : Asked → Bool
+is_served (block job input) = true
+is_served (run job input) = false
+is_served (replay job input) = false
 
--- what a command does: the files that it puts while it runs, those that it puts at its end, and what it prints
-pub record Work : Type 0 where
-  pub early : Puts
-  pub files : Puts
-  pub summary : List ℕ
+abbrev pub served_options : AskedOptions → Option AskedOptions
+served_options options = if is_served options.command then Some options else None
 
--- the same files, with these put one after another
-abbrev pub with_files : Option Files → Puts → Option Files
-with_files held [] = held
-with_files held (file ∷ others) = with_files (with_file held file.0 file.1) others
+abbrev pub served : Option AskedOptions → Option AskedOptions
+served asked = option_and_then served_options asked
 
--- the bytes that are held under a name
-abbrev pub bytes_of : Files → List ℕ → List ℕ
-bytes_of files name = unwrap_or (map.get files name) []
+-- ---- refusals
 
--- the name of the part file of partition p
-abbrev pub part_name : ℕ → List ℕ
-part_name p = codes "part-" ++ decimal p
+-- what a run of these options reads
+abbrev pub run_texts : AskedOptions → List ℕ → Files → RunTexts
+run_texts options input files = texts_held files input options.script options.turns
 
--- each text under the name of its partition's part file, counted from p
-abbrev pub part_files : ℕ → List (List ℕ) → Puts
-part_files p [] = []
-part_files p (text ∷ texts) = (part_name p, text) ∷ part_files (p + 1) texts
+-- what it is given
+abbrev pub run_given : AskedOptions → Meaning → List ℕ → Files → Given
+run_given options job input files = given_by job options.settings (run_texts options input files)
 
--- what a command reads, in order
-abbrev pub reads_of : Asked → List Wanted
-reads_of (block meaning input) = record { file = which.Input; name = input; most = 16777216 } ∷ []
+abbrev pub command_refusal : Asked → AskedOptions → Files → Option Outcome
+command_refusal (block job input) options files = long_refusal (records_of (bytes_of files input))
+command_refusal (run job input) options files = run_refusal options.settings (run_texts options input files)
+command_refusal (replay job input) options files = run_refusal options.settings (run_texts options input files)
 
 -- the first refusal of what was read
-abbrev pub refusal_of : Asked → RunSettings → Files → Option Outcome
-refusal_of (block meaning input) settings files =
-    option_map (λ index. outcome.InputRefused (refusal.RecordTooLong index)) (first_long (records_of (bytes_of files input)))
+abbrev pub refusal_of : AskedOptions → Files → Option Outcome
+refusal_of options files = command_refusal options.command options files
+
+-- what it read is there and isn't refused
+pub record Accepted (options : AskedOptions) (files : Files) : Type 0 where
+  pub read : AreReadable files (reads_of options)
+  pub unrefused : refusal_of options files ≡ None
+
+-- ---- the work
 
 -- what `block` prints at its end
 abbrev pub block_summary : ℕ → ℕ → List ℕ
@@ -64,30 +57,38 @@ block_summary records parts = codes "done records=" ++ decimal records ++ codes 
 
 -- the blocking job over an input: a part file for each partition
 abbrev pub block_work : Meaning → ℕ → List ℕ → Work
-block_work meaning reducers input = record {
+block_work job reducers input = record {
   early = [];
-  files = part_files 0 (blocking_texts meaning (records_of input) reducers);
+  files = part_files 0 (blocking_texts job (records_of input) reducers);
   summary = block_summary (length (records_of input)) reducers;
 }
 
--- what the command may do
-abbrev pub Works : Asked → RunSettings → Files → Work → Type 0
-Works (block meaning input) settings files work = work ≡ block_work meaning settings.reducers (bytes_of files input)
+abbrev pub CommandWorks : Asked → AskedOptions → Spilling → Files → Work → Type 0
+CommandWorks (block job input) options s files work = work ≡ block_work job options.settings.reducers (bytes_of files input)
+CommandWorks (run job input) options s files work = RunWorks (run_given options job input files) s work
+CommandWorks (replay job input) options s files work = RunWorks (run_given options job input files) s work
 
--- a file that the command may put while it runs
-abbrev pub MayPutEarly : Asked → RunSettings → Files → List ℕ × List ℕ → Type 0
-MayPutEarly (block meaning input) settings files file = ⊥
+-- what the options may do
+abbrev pub Works : AskedOptions → Spilling → Files → Work → Type 0
+Works options s files work = CommandWorks options.command options s files work
 
--- the file is there and isn't too long
-pub record IsReadable (files : Files) (wanted : Wanted) : Type 0 where
-  pub present : map.get files wanted.name ≡ Some (bytes_of files wanted.name)
-  pub short : length (bytes_of files wanted.name) ≤ wanted.most
+-- a file that the command may put while it runs: a run without marks puts none
+abbrev pub MayPutEarly : Asked → Files → List ℕ × List ℕ → Type 0
+MayPutEarly (block job input) files file = ⊥
+MayPutEarly (run job input) files file = ⊥
+MayPutEarly (replay job input) files file = ⊥
 
--- all that the command reads is there and short enough
-abbrev pub IsRead : Asked → Files → Type 0
-IsRead command files = AllByRecursion (IsReadable files) (reads_of command)
+-- the command makes spills
+abbrev pub IsRun : Asked → Type 0
+IsRun (block job input) = ⊥
+IsRun (run job input) = Unit {0}
+IsRun (replay job input) = Unit {0}
 
--- what it read isn't refused
-pub record Accepted (command : Asked) (settings : RunSettings) (files : Files) : Type 0 where
-  pub read : IsRead command files
-  pub unrefused : refusal_of command settings files ≡ None
+-- the last attempt of the split may be spent
+abbrev pub CommandSpends : Asked → AskedOptions → Files → ℕ → Type 0
+CommandSpends (block job input) options files split = ⊥
+CommandSpends (run job input) options files split = IsSpent (run_given options job input files) split
+CommandSpends (replay job input) options files split = IsSpent (run_given options job input files) split
+
+abbrev pub Spends : AskedOptions → Files → ℕ → Type 0
+Spends options files split = CommandSpends options.command options files split

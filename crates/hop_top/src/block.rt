@@ -2,11 +2,12 @@
 ghost use Rattle.std.specs.Prelude.{◌≡◌, ◌<◌, ◌≤◌, true, IfOk, length, string_bytes};
 ghost use Rattle.hop_jobs.specs.Known.{known_meaning};
 ghost use Rattle.hop_words.specs.Names.{is_name};
-ghost use Rattle.hop_words.specs.Options.{block as asked_block, settings_of};
+ghost use Rattle.hop_words.specs.Options.{AskedOptions, block as asked_block, settings_of};
 ghost use Rattle.hop_top.specs.Faults.{FaultsAnswered};
-ghost use Rattle.hop_top.specs.Meets.{MeetsCommand};
-ghost use Rattle.hop_top.specs.Puts.{files_in};
-ghost use Rattle.hop_top.specs.Work.{block_summary, part_files, part_name};
+ghost use Rattle.hop_top.specs.Meets.{MeetsOptions};
+ghost use Rattle.hop_top.specs.Puts.{files_in, part_files, part_name};
+ghost use Rattle.hop_top.specs.Spilling.{Spilling};
+ghost use Rattle.hop_top.specs.Work.{block_summary};
 
 use crate::outcome::{File, Outcome, Refusal};
 use crate::puts::{NamedFile, hand_out};
@@ -36,8 +37,8 @@ fn part_name(alloc: Global, p: u8) -> Result<String, AllocError>
     format!(in alloc; "part-{p}")
 }
 
-// The texts as part files, by partition.
-fn part_files(alloc: Global, texts: Texts) -> Result<Vec<NamedFile>, NoMemory>
+/// The texts as part files, by partition.
+pub(crate) fn part_files(alloc: Global, texts: Texts) -> Result<Vec<NamedFile>, NoMemory>
     requires { length texts ≤ 8 }
     ensures { IfOk result (λ files. files_in files.items ≡ part_files 0 texts) }
 {
@@ -61,7 +62,7 @@ pub fn block<F: Folder, O: Sink>(
     out: &mut O,
 ) -> Outcome
     requires { is_name input.now ≡ true }
-    ensures meets { MeetsCommand (F.seen folder.old) (F.seen folder.new) (O.seen out.old) (O.seen out.new) (asked_block (known_meaning job.now) input.now) (settings_of settings.now) result }
+    ensures meets { (s : Spilling) (options : AskedOptions) → options.command ≡ asked_block (known_meaning job.now) input.now → options.settings ≡ settings_of settings.now → MeetsOptions (F.seen folder.old) (F.seen folder.new) (O.seen out.old) (O.seen out.new) s options result }
     ensures answered { FaultsAnswered (F.seen folder.old) (F.seen folder.new) (O.seen out.old) (O.seen out.new) result }
 {
     let reducers = settings.reducers;

@@ -2,6 +2,8 @@
 #![tactic(auto)]
 
 pub mod block;
+pub mod check;
+pub mod ending;
 pub mod outcome;
 pub mod puts;
 pub mod reads;

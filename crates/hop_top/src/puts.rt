@@ -3,8 +3,7 @@ ghost use Rattle.std.specs.Prelude.{◌≡◌, IfErr, OnOk, string_bytes};
 ghost use Rattle.hop_ports.specs.Causes.{OnlyPut, PutCause};
 ghost use Rattle.hop_ports.specs.Views.{with_file};
 ghost use Rattle.hop_top.specs.Faults.{FaultsAnswered};
-ghost use Rattle.hop_top.specs.Puts.{HandsOut, PutsCause, files_in};
-ghost use Rattle.hop_top.specs.Work.{with_files};
+ghost use Rattle.hop_top.specs.Puts.{HandsOut, PutsCause, files_in, with_files};
 
 use crate::outcome::Outcome;
 use hop_base::Text;

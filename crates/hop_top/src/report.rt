@@ -35,7 +35,27 @@ fn line_of(alloc: Global, outcome: &Outcome) -> Result<String, AllocError>
         Outcome::InputRefused(Refusal::RecordTooLong { index }) => {
             format!(in alloc; "hop: record {index} is too long\n")
         }
+        Outcome::InputRefused(Refusal::TooManySplits { count }) => {
+            format!(in alloc; "hop: {count} splits are too many\n")
+        }
+        Outcome::InputRefused(Refusal::TooManySpills { count }) => {
+            format!(in alloc; "hop: {count} spills are too many\n")
+        }
+        Outcome::ScriptRefused { file, line } => {
+            let name = file_name(*file);
+            format!(in alloc; "hop: line {line} of the {name} is not understood\n")
+        }
+        Outcome::RetriesSpent { split } => {
+            format!(in alloc; "hop: split {split} has spent its attempts\n")
+        }
         Outcome::FolderFailed => String::from_str(alloc, "hop: the job folder failed\n"),
+        Outcome::SpillFailed { worker } => format!(in alloc; "hop: spill folder {worker} failed\n"),
+        Outcome::SpillDamaged { worker, .. } => {
+            format!(in alloc; "hop: a spill of worker {worker} is damaged\n")
+        }
+        Outcome::SpillCollides { worker, .. } => {
+            format!(in alloc; "hop: a spill of worker {worker} is no spill\n")
+        }
         Outcome::SayFailed => String::from_str(alloc, "hop: cannot write the summary\n"),
         Outcome::NoMemory => String::from_str(alloc, "hop: no memory\n"),
     }
@@ -59,7 +79,11 @@ pub fn status(outcome: &Outcome) -> u8
         Outcome::Usage => 1,
         Outcome::InputFailed { .. } => 2,
         Outcome::InputRefused(_) => 3,
+        Outcome::ScriptRefused { .. } => 4,
+        Outcome::RetriesSpent { .. } => 5,
         Outcome::FolderFailed => 6,
+        Outcome::SpillFailed { .. } => 7,
+        Outcome::SpillDamaged { .. } | Outcome::SpillCollides { .. } => 8,
         Outcome::SayFailed => 11,
         Outcome::NoMemory => 9,
     }

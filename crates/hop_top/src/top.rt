@@ -1,15 +1,17 @@
 //! The top call.
 ghost use Rattle.std.specs.Prelude.{◌≡◌, map, vec_len};
-ghost use Rattle.hop_words.specs.Options.{HasNames, asked, command_of, settings_of};
+ghost use Rattle.hop_words.specs.Options.{HasFiles, asked, options_of};
 ghost use Rattle.hop_top.specs.Complete.{IsComplete};
 ghost use Rattle.hop_top.specs.Faults.{FaultsAnswered};
-ghost use Rattle.hop_top.specs.Meets.{Meets, MeetsCommand};
+ghost use Rattle.hop_top.specs.Meets.{Meets};
+ghost use Rattle.hop_top.specs.Spilling.{Spilling};
+ghost use Rattle.hop_top.specs.Work.{served, served_options};
 
 use crate::block::block;
 use crate::outcome::Outcome;
-use hop_base::{Settings, Words};
+use hop_base::Words;
 use hop_ports::{Folder, Gate, Sink};
-use hop_words::{Command, WordsFault, read_words};
+use hop_words::{Command, Options, WordsFault, read_words};
 use std::alloc::Global;
 use std::sync::Wait;
 use std::thread::Threads;
@@ -22,30 +24,26 @@ pub struct Handed<A, F, V> {
     pub spills: Vec<V>,
 }
 
-// Does a command.
-fn run<F: Folder, O: Sink>(
-    alloc: Global,
-    command: &Command,
-    settings: &Settings,
-    folder: &mut F,
-    out: &mut O,
-) -> Outcome
-    requires { HasNames command.now }
-    ensures meets { MeetsCommand (F.seen folder.old) (F.seen folder.new) (O.seen out.old) (O.seen out.new) (command_of command.now) (settings_of settings.now) result }
+// Does what the options ask for.
+fn run<F: Folder, O: Sink>(alloc: Global, options: &Options, folder: &mut F, out: &mut O) -> Outcome
+    requires { HasFiles options.now }
+    ensures meets { (s : Spilling) → Meets (F.seen folder.old) (F.seen folder.new) (O.seen out.old) (O.seen out.new) s (served_options (options_of options.now)) result }
     ensures answered { FaultsAnswered (F.seen folder.old) (F.seen folder.new) (O.seen out.old) (O.seen out.new) result }
 {
-    match command {
+    let settings = &options.settings;
+    match &options.command {
         Command::Block { job, input } => block(alloc, job, input, settings, folder, out),
+        Command::Run { .. } | Command::Replay { .. } => Outcome::Usage,
     }
 }
 
 // Does what the words ask for.
 fn answer<F: Folder, O: Sink>(alloc: Global, words: &Words, folder: &mut F, out: &mut O) -> Outcome
-    ensures meets { Meets (F.seen folder.old) (F.seen folder.new) (O.seen out.old) (O.seen out.new) (asked words.now) result }
+    ensures meets { (s : Spilling) → Meets (F.seen folder.old) (F.seen folder.new) (O.seen out.old) (O.seen out.new) s (served (asked words.now)) result }
     ensures answered { FaultsAnswered (F.seen folder.old) (F.seen folder.new) (O.seen out.old) (O.seen out.new) result }
 {
     match read_words(alloc, words) {
-        Ok(options) => run(alloc, &options.command, &options.settings, folder, out),
+        Ok(options) => run(alloc, &options, folder, out),
         Err(WordsFault::Usage) => Outcome::Usage,
         Err(WordsFault::NoMemory) => Outcome::NoMemory,
     }
@@ -64,9 +62,9 @@ pub fn hop_plain<F: Folder, V: Folder, O: Sink>(
     out: &mut O,
 ) -> Handed<Outcome, F, V>
     requires { vec_len spills ≡ 8 }
-    ensures meets { Meets (F.seen folder) (F.seen result.folder) (O.seen out.old) (O.seen out.new) (asked words.now) result.answer }
+    ensures meets { Meets (F.seen folder) (F.seen result.folder) (O.seen out.old) (O.seen out.new) (record { before = map V.seen spills.items; after = map V.seen result.spills.items }) (served (asked words.now)) result.answer }
     ensures answered { FaultsAnswered (F.seen folder) (F.seen result.folder) (O.seen out.old) (O.seen out.new) result.answer }
-    ensures complete { IsComplete (F.seen folder) (F.seen result.folder) (O.seen out.old) (O.seen out.new) (asked words.now) result.answer }
+    ensures complete { IsComplete (F.seen folder) (F.seen result.folder) (O.seen out.old) (O.seen out.new) (record { before = map V.seen spills.items; after = map V.seen result.spills.items }) (served (asked words.now)) result.answer }
     ensures spills { map V.seen result.spills.items ≡ map V.seen spills.items }
 {
     let mut folder = folder;
@@ -95,9 +93,9 @@ where
     O: Sink,
     G: Gate + Sync,
     requires { vec_len spills ≡ 8 }
-    ensures meets { Meets (F.seen folder) (F.seen result.folder) (O.seen out.old) (O.seen out.new) (asked words.now) result.answer }
+    ensures meets { Meets (F.seen folder) (F.seen result.folder) (O.seen out.old) (O.seen out.new) (record { before = map V.seen spills.items; after = map V.seen result.spills.items }) (served (asked words.now)) result.answer }
     ensures answered { FaultsAnswered (F.seen folder) (F.seen result.folder) (O.seen out.old) (O.seen out.new) result.answer }
-    ensures complete { IsComplete (F.seen folder) (F.seen result.folder) (O.seen out.old) (O.seen out.new) (asked words.now) result.answer }
+    ensures complete { IsComplete (F.seen folder) (F.seen result.folder) (O.seen out.old) (O.seen out.new) (record { before = map V.seen spills.items; after = map V.seen result.spills.items }) (served (asked words.now)) result.answer }
     ensures spills { map V.seen result.spills.items ≡ map V.seen spills.items }
 {
     let _ = rt;

@@ -1,3 +1,4 @@
+pub mod AskedLaws
 pub mod ClapAgrees
 pub mod ClapRules
 pub mod ClapRows

@@ -22,9 +22,13 @@ plain_id = codes "--"
 abbrev pub plain_rule : Rule
 plain_rule = record (new_rule plain_id) { action = Some Append }
 
+-- a command without arguments
+abbrev pub hop_bare : App
+hop_bare = on_top (λ s. record s { disable_help_flag = true }) (new_app (codes "hop"))
+
 -- the command that is handed to clap: an option of each name, and the plain words
 abbrev pub hop_app : List Text → App
-hop_app names = on_top (λ s. record s { disable_help_flag = true; rules = map option_rule names ++ plain_rule ∷ [] }) (new_app (codes "hop"))
+hop_app names = on_top (λ s. record s { rules = map option_rule names ++ plain_rule ∷ [] }) hop_bare
 
 -- each word is text
 abbrev pub AllText : List Text → Type 0
@@ -45,6 +49,10 @@ words_behind (word ∷ words) = words
 abbrev pub values_at : Text → List Row → List Text
 values_at id rows = option_map_or (λ (r : Row). r.values) (find (λ (r : Row). bytes_eq r.id id) rows) []
 
+-- the same of what was found
+abbrev pub given_in : ArgMatches → Text → List Text
+given_in m id = values_at id (rows_of (found_of m))
+
 -- the texts that a getter gives
 abbrev pub texts_in : Option (Bor (List (Bor Text))) → List Text
 texts_in None = []
@@ -57,7 +65,7 @@ values_for id s = if bytes_eq plain_id id then s.plain else values_given id s
 -- the parse has for each id what the scan has
 abbrev pub HasValues : Option Scanned → ArgMatches → Type 0
 HasValues None m = ⊥
-HasValues (Some s) m = (id : Text) → values_at id (rows_of (found_of m)) ≡ values_for id s
+HasValues (Some s) m = (id : Text) → given_in m id ≡ values_for id s
 
 -- the parse found what the words give
 abbrev pub Finds : List Text → ArgMatches → Type 0

@@ -1,5 +1,5 @@
 -- The names of files on a command line.
-use Rattle.std.specs.Prelude.{ℕ, List, [], ◌∷◌, length, Bool, false, ◌&&◌, ◌||◌, nat_eq, nat_le}
+use Rattle.std.specs.Prelude.{ℕ, List, [], ◌∷◌, length, Bool, false, ◌&&◌, ◌||◌, nat_eq, nat_le, if◌then◌else◌, Option, None, Some}
 use Rattle.std.specs.List.{list_all}
 
 abbrev pub is_between : ℕ → ℕ → ℕ → Bool
@@ -21,3 +21,10 @@ begins_name (c ∷ cs) = is_alphanumeric c || nat_eq c 95
 -- the name of a file
 abbrev pub is_name : List ℕ → Bool
 is_name text = begins_name text && list_all is_name_byte text && nat_le (length text) 100
+
+-- the name that an option gives, where it is given, by the values that it was given; nothing where there are two, or one that is
+-- no name
+abbrev pub name_in : List (List ℕ) → Option (Option (List ℕ))
+name_in [] = Some None
+name_in (value ∷ []) = if is_name value then Some (Some value) else None
+name_in (value ∷ other ∷ values) = None

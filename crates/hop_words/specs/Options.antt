@@ -1,5 +1,6 @@
 -- What the words of a command line ask for, by cases from the tables of commands and options.
-use Rattle.std.specs.Prelude.{◌≡◌, ℕ, true, false, if◌then◌else◌, List, [], ◌∷◌, Option, None, Some, option_map, option_and_then, codes}
+use Rattle.std.specs.Prelude.{◌≡◌, ℕ, Bool, true, false, not, ◌==◌, if◌then◌else◌, List, [], ◌∷◌, ◌++◌, length, filter, Option, None, Some, IfSome, is_some, option_and_then, codes}
+use Rattle.std.specs.List.{list_all}
 use Rattle.std.specs.Str.{bytes_eq}
 use Rattle.hop_base.specs.Meaning.{Meaning}
 use Rattle.hop_base.specs.Run.{RunSettings}
@@ -9,16 +10,18 @@ use Rattle.hop_jobs.specs.Max.{max_meaning}
 use Rattle.hop_jobs.specs.Sum.{sum_meaning}
 use Rattle.hop_jobs.specs.Top.{top_meaning}
 use Rattle.hop_jobs.specs.Wc.{wc_meaning}
-use Rattle.hop_words.specs.Names.{is_name}
-use Rattle.hop_words.specs.Scan.{Scanned, scan, values_given}
-use Rattle.hop_words.specs.Table.{k_option, number_in_row, option_names, reducers_option}
+use Rattle.hop_words.specs.Names.{is_name, name_in}
+use Rattle.hop_words.specs.Scan.{Scanned, is_known, scan, values_given}
+use Rattle.hop_words.specs.Table.{NumberOption, attempts_option, job_options, k_option, lane_option, number_in_row, option_names, reducers_option, run_options, script_option, spill_option, split_option, turn_options, turns_option, workers_option}
 use Rattle.hop_words.specs.declared.options.Command.{Command}
-use Rattle.hop_words.specs.declared.options.Command.TheVariants.{Block}
+use Rattle.hop_words.specs.declared.options.Command.TheVariants.{Block, Run, Replay}
 use Rattle.hop_words.specs.declared.options.Options.{Options}
 
 -- a command: its job or jobs, and the names of its files
 pub data Asked : Type 0 where
   block : Meaning → List ℕ → Asked
+  run : Meaning → List ℕ → Asked
+  replay : Meaning → List ℕ → Asked
 
 -- a command with its settings, and the names of the files that options give
 pub record AskedOptions : Type 0 where
@@ -44,6 +47,8 @@ default_settings = record {
   marks = [];
 }
 
+-- ---- the plain words
+
 -- the job of this name, where top keeps k
 abbrev pub job_named : ℕ → List ℕ → Option Meaning
 job_named k word =
@@ -53,36 +58,93 @@ job_named k word =
     else if bytes_eq word (codes "top") then Some (top_meaning k)
     else None
 
--- `block JOB INPUT`
-abbrev pub block_asked : ℕ → ℕ → List ℕ → List ℕ → Option AskedOptions
-block_asked k reducers job input =
-    if is_name input then option_map (λ meaning. record {
-      command = block meaning input;
-      settings = record default_settings { reducers = reducers };
-      script = None;
-      turns = None;
-      trace = None;
-    }) (job_named k job)
+-- the command of this name, over a job and an input
+abbrev pub command_named : List ℕ → Meaning → List ℕ → Option Asked
+command_named word meaning input =
+    if bytes_eq word (codes "block") then Some (block meaning input)
+    else if bytes_eq word (codes "run") then Some (run meaning input)
+    else if bytes_eq word (codes "replay") then Some (replay meaning input)
     else None
 
+-- `COMMAND JOB INPUT`
+abbrev pub job_asked : ℕ → List ℕ → List ℕ → List ℕ → Option Asked
+job_asked k command job input =
+    if is_name input then option_and_then (λ meaning. command_named command meaning input) (job_named k job) else None
+
 -- the plain words, by the forms of the commands
-abbrev pub asked_plainly : ℕ → ℕ → List (List ℕ) → Option AskedOptions
-asked_plainly k reducers (command ∷ job ∷ input ∷ []) =
-    if bytes_eq command (codes "block") then block_asked k reducers job input else None
-asked_plainly k reducers others = None
+abbrev pub asked_plainly : ℕ → List (List ℕ) → Option Asked
+asked_plainly k (command ∷ job ∷ input ∷ []) = job_asked k command job input
+asked_plainly k others = None
 
--- the plain words and the options, where each option has a value in its range
-abbrev pub asked_with : Option ℕ → Option ℕ → List (List ℕ) → Option AskedOptions
-asked_with (Some k) (Some reducers) plain = asked_plainly k reducers plain
-asked_with (Some k) None plain = None
-asked_with None reducers plain = None
+-- ---- the options
 
--- the values of the options, and the plain words
-abbrev pub asked_found : List (List ℕ) → List (List ℕ) → List (List ℕ) → Option AskedOptions
-asked_found k reducers plain = asked_with (number_in_row k_option k) (number_in_row reducers_option reducers) plain
+-- the values that each option is given, by its name
+abbrev pub Given : Type 0
+Given = List ℕ → List (List ℕ)
+
+-- what comes of the number of an option, where it is in its range
+abbrev pub with_number : {A : Type 0} → Given → NumberOption → (ℕ → Option A) → Option A
+with_number given row next = option_and_then next (number_in_row row (given row.name))
+
+-- the settings, where each is in its range
+abbrev pub settings_asked : Given → Option RunSettings
+settings_asked given =
+    with_number given reducers_option (λ reducers.
+    with_number given split_option (λ split.
+    with_number given spill_option (λ spill.
+    with_number given workers_option (λ workers.
+    with_number given attempts_option (λ attempts.
+    with_number given lane_option (λ lane.
+    Some (record default_settings { reducers = reducers; split = split; spill = spill; workers = workers; attempts = attempts; lane = lane })))))))
+
+-- the options that a command takes
+abbrev pub options_taken : Asked → List (List ℕ)
+options_taken (block meaning input) = job_options
+options_taken (run meaning input) = job_options ++ run_options
+options_taken (replay meaning input) = job_options ++ (run_options ++ turn_options)
+
+-- those that it doesn't take
+abbrev pub options_untaken : Asked → List (List ℕ)
+options_untaken command = filter (λ name. not (is_known (options_taken command) name)) option_names
+
+abbrev pub is_unset : List (List ℕ) → Bool
+is_unset values = length values == 0
+
+-- no option is given that the command doesn't take
+abbrev pub takes_all : Asked → Given → Bool
+takes_all command given = list_all (λ name. is_unset (given name)) (options_untaken command)
+
+-- the options that must be given are given: a replay has its turn list
+abbrev pub has_all : Asked → Option (List ℕ) → Bool
+has_all (block meaning input) turns = true
+has_all (run meaning input) turns = true
+has_all (replay meaning input) turns = is_some turns
+
+-- ---- all of it
+
+-- the command with its settings and its files, where the options name files, and those that must be given are given
+abbrev pub options_with : Asked → RunSettings → Option (Option (List ℕ)) → Option (Option (List ℕ)) → Option AskedOptions
+options_with command settings (Some script) (Some turns) =
+    if has_all command turns then Some (record { command = command; settings = settings; script = script; turns = turns; trace = None }) else None
+options_with command settings (Some script) None = None
+options_with command settings None turns = None
+
+-- what the options give a command that takes them
+abbrev pub options_asked : Given → Asked → Option AskedOptions
+options_asked given command =
+    if takes_all command given then option_and_then (λ settings. options_with command settings (name_in (given script_option)) (name_in (given turns_option))) (settings_asked given)
+    else None
+
+-- the command of the plain words
+abbrev pub command_asked : Given → List (List ℕ) → Option Asked
+command_asked given plain = with_number given k_option (λ k. asked_plainly k plain)
+
+-- what the values of the options and the plain words ask for
+abbrev pub asked_from : Given → List (List ℕ) → Option AskedOptions
+asked_from given plain = option_and_then (options_asked given) (command_asked given plain)
 
 abbrev pub asked_by : Scanned → Option AskedOptions
-asked_by s = asked_found (values_given k_option.name s) (values_given reducers_option.name s) s.plain
+asked_by s = asked_from (λ name. values_given name s) s.plain
 
 -- what the words ask for
 abbrev pub asked : List (List ℕ) → Option AskedOptions
@@ -107,6 +169,8 @@ settings_of s = record {
 
 abbrev pub command_of : Command → Asked
 command_of (Block job input) = block (known_meaning job) input
+command_of (Run job input) = run (known_meaning job) input
+command_of (Replay job input) = replay (known_meaning job) input
 
 -- the options say this
 abbrev pub options_of : Options → AskedOptions
@@ -121,3 +185,16 @@ options_of o = record {
 -- the names in a command are names of files
 abbrev pub HasNames : Command → Type 0
 HasNames (Block job input) = is_name input ≡ true
+HasNames (Run job input) = is_name input ≡ true
+HasNames (Replay job input) = is_name input ≡ true
+
+-- the option names a file, where it is given
+abbrev pub NamesFile : Option (List ℕ) → Type 0
+NamesFile given = IfSome given (λ name. is_name name ≡ true)
+
+-- all names are names of files, and the options that must be given are given
+pub record HasFiles (o : Options) : Type 0 where
+  pub command : HasNames o.command
+  pub script : NamesFile o.script
+  pub turns : NamesFile o.turns
+  pub all : has_all (command_of o.command) o.turns ≡ true

@@ -7,6 +7,10 @@ use hop_jobs::Known;
 pub enum Command {
     /// The blocking job over an input.
     Block { job: Known, input: Text },
+    /// The pipelined job over an input.
+    Run { job: Known, input: Text },
+    /// The same on one thread, by a turn list.
+    Replay { job: Known, input: Text },
 }
 
 /// A command with its settings, and the names of the files that options give.
@@ -16,7 +20,7 @@ pub struct Options {
     pub settings: Settings,
     /// The fault script.
     pub script: Option<Text>,
-    /// The turn list.
+    /// The turn list. A replay has one.
     pub turns: Option<Text>,
     /// The trace to be checked.
     pub trace: Option<Text>,

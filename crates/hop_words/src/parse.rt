@@ -1,7 +1,7 @@
 //! The one call of `clap`: it cuts the words into plain words and the values of options.
 ghost use Rattle.std.specs.Prelude.{◌≡◌, None, false, map, IfOk, IsErrOf};
-ghost use Rattle.clap.specs.Words.{app_of, kind_of, rule_of, rows_of, found_of};
-ghost use Rattle.hop_words.specs.Clap.{Finds, NamesProgram, hop_app, option_rule, texts_in, values_at, words_behind};
+ghost use Rattle.clap.specs.Words.{app_of, kind_of, rule_of, with_rule};
+ghost use Rattle.hop_words.specs.Clap.{Finds, NamesProgram, given_in, hop_app, hop_bare, option_rule, plain_rule, texts_in, words_behind};
 ghost use Rattle.hop_words.specs.Table.{option_names};
 ghost use Rattle.hop_words.specs.Scan.{scan};
 
@@ -25,16 +25,47 @@ fn option<'a>(alloc: Global, name: &'a str) -> Arg<'a>
     Arg::new(alloc, name).long(name).action(ArgAction::Append)
 }
 
+// One option more.
+fn with_option<'a>(
+    alloc: Global,
+    command: Command<'a>,
+    name: &'a str,
+) -> Result<Command<'a>, AllocError>
+    ensures { IfOk result (λ c. app_of c ≡ with_rule (app_of command.entry) (option_rule name.entry.now)) }
+{
+    command.arg(option(alloc, name))
+}
+
+// The plain words, each of which is a value.
+fn plain_words<'a>(alloc: Global) -> Arg<'a>
+    ensures rule { rule_of result ≡ plain_rule }
+    ensures local { result.global ≡ false }
+{
+    Arg::new(alloc, PLAIN).action(ArgAction::Append)
+}
+
+// The command without arguments.
+fn bare_command<'a>(alloc: Global) -> Command<'a>
+    ensures { app_of result ≡ hop_bare }
+{
+    Command::new(alloc, PROGRAM).disable_help_flag(true)
+}
+
 // The flat command: all options, and a row of plain words.
 fn command<'a>(alloc: Global) -> Result<Command<'a>, AllocError>
     ensures { IfOk result (λ c. app_of c ≡ hop_app option_names) }
 {
-    let plain = Arg::new(alloc, PLAIN).action(ArgAction::Append);
-    Command::new(alloc, PROGRAM)
-        .disable_help_flag(true)
-        .arg(option(alloc, "k"))?
-        .arg(option(alloc, "reducers"))?
-        .arg(plain)
+    let command = bare_command(alloc);
+    let command = with_option(alloc, command, "k")?;
+    let command = with_option(alloc, command, "reducers")?;
+    let command = with_option(alloc, command, "split")?;
+    let command = with_option(alloc, command, "spill")?;
+    let command = with_option(alloc, command, "workers")?;
+    let command = with_option(alloc, command, "attempts")?;
+    let command = with_option(alloc, command, "lane")?;
+    let command = with_option(alloc, command, "script")?;
+    let command = with_option(alloc, command, "turns")?;
+    command.arg(plain_words(alloc))
 }
 
 /// The words as clap takes them, behind one that stands for the program's name.
@@ -78,7 +109,7 @@ pub fn parsed<'a>(alloc: Global, texts: &'a [&'a str]) -> Result<ArgMatches<'a>,
 
 /// The values that were found for an option, or the plain words; nothing where there are none.
 pub fn values<'m, 'a>(matches: &'m ArgMatches<'a>, id: &str) -> Option<&'m [&'a str]>
-    ensures { texts_in result ≡ values_at id.now (rows_of (found_of matches.now)) }
+    ensures { texts_in result ≡ given_in matches.now id.now }
 {
     matches.get_raw(id)
 }

@@ -1,18 +1,15 @@
 //! The words of a command line, read by the tables of commands and options.
-ghost use Rattle.std.specs.Prelude.{◌≡◌, ◌≤◌, [], ◌∷◌, None, Some, IfOk, IsErrOf, map};
-ghost use Rattle.std.specs.Option.{option_map};
-ghost use Rattle.hop_jobs.specs.Known.{known_meaning};
-ghost use Rattle.hop_words.specs.Clap.{texts_in};
-ghost use Rattle.hop_words.specs.Options.{HasNames, asked, asked_found, asked_plainly, block_asked, default_settings, job_named, options_of, settings_of};
+ghost use Rattle.std.specs.Prelude.{◌≡◌, None, Some, IfOk, IsErrOf};
+ghost use Rattle.hop_words.specs.Clap.{given_in, plain_id};
+ghost use Rattle.hop_words.specs.Options.{HasFiles, HasNames, asked, asked_from, command_asked, command_of, has_all, options_asked, options_of};
 
+use crate::command::read_plain;
 use crate::fault::WordsFault;
-use crate::names::is_name;
-use crate::numbers::number_in;
 use crate::options::{Command, Options};
 use crate::parse::{PLAIN, parsed, texts, values};
-use hop_base::limits::MAX_REDUCERS;
-use hop_base::{Marks, Settings, Text, Words};
-use hop_jobs::{Known, Max, Sum, Top, Wc};
+use crate::values::{number, read_name, read_settings, takes_all};
+use clap::ArgMatches;
+use hop_base::{Text, Words};
 use std::alloc::Global;
 
 /// The greatest number of values that `top` keeps, and how many it keeps where nothing is said.
@@ -20,147 +17,84 @@ const MAX_K: u32 = 1_000;
 
 const DEFAULT_K: u32 = 10;
 
-// The job of this name.
-fn job_named(word: &str, k: u32) -> Option<Known>
-    requires some { 1 ≤ k }
-    requires few { k ≤ 1000 }
-    ensures { option_map known_meaning result ≡ job_named k word.now }
+// The command of the plain words.
+fn read_command<'a>(alloc: Global, matches: &ArgMatches<'a>) -> Result<Command, WordsFault>
+    ensures command { IfOk result (λ command. command_asked (given_in matches.now) (given_in matches.now plain_id) ≡ Some (command_of command)) }
+    ensures names { IfOk result HasNames }
+    ensures usage { IsErrOf result WordsFault.Usage → command_asked (given_in matches.now) (given_in matches.now plain_id) ≡ None }
 {
-    if word == "wc" {
-        Some(Known::Wc(Wc))
-    } else if word == "sum" {
-        Some(Known::Sum(Sum))
-    } else if word == "max" {
-        Some(Known::Max(Max))
-    } else if word == "top" {
-        Some(Known::Top(Top::new(k)))
-    } else {
-        None
+    let Some(k) = number(matches, "k", 1, MAX_K, DEFAULT_K) else {
+        return Err(WordsFault::Usage);
+    };
+    match values(matches, PLAIN) {
+        Some(plain) => read_plain(alloc, k, plain),
+        None => Err(WordsFault::Usage),
     }
 }
 
-// The settings where no option but `--reducers` says otherwise.
-fn settings_with(alloc: Global, reducers: u8) -> Settings
-    requires some { 1 ≤ reducers }
-    requires few { reducers ≤ 8 }
-    ensures { settings_of result ≡ record default_settings { reducers = reducers } }
+// Whether the options that must be given are given.
+fn has_all(command: &Command, turns: &Option<Text>) -> bool
+    ensures { result ≡ has_all (command_of command.now) turns.now }
 {
-    Settings {
-        reducers,
-        split: 16_384,
-        spill: 1_000,
-        workers: 2,
-        attempts: 4,
-        lane: 2,
-        mergers: 1,
-        threads: 4,
-        backup: false,
-        tentative: true,
-        marks: Marks::new(alloc),
+    match command {
+        Command::Block { .. } | Command::Run { .. } => true,
+        Command::Replay { .. } => turns.is_some(),
     }
 }
 
-// `block JOB INPUT`.
-fn read_block(
+// A command with what the options give it.
+fn read_options<'a>(
     alloc: Global,
-    k: u32,
-    reducers: u8,
-    job: &str,
-    input: &str,
+    command: Command,
+    matches: &ArgMatches<'a>,
 ) -> Result<Options, WordsFault>
-    requires some_k { 1 ≤ k }
-    requires few_k { k ≤ 1000 }
-    requires some_reducers { 1 ≤ reducers }
-    requires few_reducers { reducers ≤ 8 }
-    ensures options { IfOk result (λ options. block_asked k reducers job.now input.now ≡ Some (options_of options)) }
-    ensures names { IfOk result (λ options. HasNames options.command) }
-    ensures usage { IsErrOf result WordsFault.Usage → block_asked k reducers job.now input.now ≡ None }
+    requires { HasNames command }
+    ensures options { IfOk result (λ options. options_asked (given_in matches.now) (command_of command) ≡ Some (options_of options)) }
+    ensures files { IfOk result HasFiles }
+    ensures usage { IsErrOf result WordsFault.Usage → options_asked (given_in matches.now) (command_of command) ≡ None }
 {
-    if !is_name(input.as_bytes()) {
+    if !takes_all(&command, matches) {
         return Err(WordsFault::Usage);
     }
-    let Some(job) = job_named(job, k) else {
+    let Some(settings) = read_settings(alloc, matches) else {
         return Err(WordsFault::Usage);
     };
-    let Ok(input) = Text::from_slice(alloc, input.as_bytes()) else {
-        return Err(WordsFault::NoMemory);
+    let script = match read_name(alloc, matches, "script") {
+        Ok(script) => script,
+        Err(fault) => return Err(fault),
     };
+    let turns = match read_name(alloc, matches, "turns") {
+        Ok(turns) => turns,
+        Err(fault) => return Err(fault),
+    };
+    if !has_all(&command, &turns) {
+        return Err(WordsFault::Usage);
+    }
     Ok(Options {
-        command: Command::Block { job, input },
-        settings: settings_with(alloc, reducers),
-        script: None,
-        turns: None,
+        command,
+        settings,
+        script,
+        turns,
         trace: None,
     })
 }
 
-// Three plain words.
-fn read_three(
-    alloc: Global,
-    k: u32,
-    reducers: u8,
-    command: &str,
-    job: &str,
-    input: &str,
-) -> Result<Options, WordsFault>
-    requires some_k { 1 ≤ k }
-    requires few_k { k ≤ 1000 }
-    requires some_reducers { 1 ≤ reducers }
-    requires few_reducers { reducers ≤ 8 }
-    ensures options { IfOk result (λ options. asked_plainly k reducers (command.now ∷ job.now ∷ input.now ∷ []) ≡ Some (options_of options)) }
-    ensures names { IfOk result (λ options. HasNames options.command) }
-    ensures usage { IsErrOf result WordsFault.Usage → asked_plainly k reducers (command.now ∷ job.now ∷ input.now ∷ []) ≡ None }
-{
-    if command == "block" {
-        read_block(alloc, k, reducers, job, input)
-    } else {
-        Err(WordsFault::Usage)
-    }
-}
-
-// The plain words, by the forms of the commands.
-fn read_plain(alloc: Global, k: u32, reducers: u8, plain: &[&str]) -> Result<Options, WordsFault>
-    requires some_k { 1 ≤ k }
-    requires few_k { k ≤ 1000 }
-    requires some_reducers { 1 ≤ reducers }
-    requires few_reducers { reducers ≤ 8 }
-    ensures options { IfOk result (λ options. asked_plainly k reducers (map (λ word. word.now) plain.entry.now) ≡ Some (options_of options)) }
-    ensures names { IfOk result (λ options. HasNames options.command) }
-    ensures usage { IsErrOf result WordsFault.Usage → asked_plainly k reducers (map (λ word. word.now) plain.entry.now) ≡ None }
-{
-    if plain.len() != 3 {
-        return Err(WordsFault::Usage);
-    }
-    read_three(alloc, k, reducers, plain[0], plain[1], plain[2])
-}
-
 // What the values of the options and the plain words ask for.
-fn read_found(
-    alloc: Global,
-    k: Option<&[&str]>,
-    reducers: Option<&[&str]>,
-    plain: Option<&[&str]>,
-) -> Result<Options, WordsFault>
-    ensures options { IfOk result (λ options. asked_found (texts_in k.entry) (texts_in reducers.entry) (texts_in plain.entry) ≡ Some (options_of options)) }
-    ensures names { IfOk result (λ options. HasNames options.command) }
-    ensures usage { IsErrOf result WordsFault.Usage → asked_found (texts_in k.entry) (texts_in reducers.entry) (texts_in plain.entry) ≡ None }
+fn read_found<'a>(alloc: Global, matches: &ArgMatches<'a>) -> Result<Options, WordsFault>
+    ensures options { IfOk result (λ options. asked_from (given_in matches.now) (given_in matches.now plain_id) ≡ Some (options_of options)) }
+    ensures files { IfOk result HasFiles }
+    ensures usage { IsErrOf result WordsFault.Usage → asked_from (given_in matches.now) (given_in matches.now plain_id) ≡ None }
 {
-    let Some(k) = number_in(1, MAX_K, DEFAULT_K, k) else {
-        return Err(WordsFault::Usage);
-    };
-    let Some(reducers) = number_in(1, MAX_REDUCERS as u32, 1, reducers) else {
-        return Err(WordsFault::Usage);
-    };
-    match plain {
-        Some(plain) => read_plain(alloc, k, reducers as u8, plain),
-        None => Err(WordsFault::Usage),
+    match read_command(alloc, matches) {
+        Ok(command) => read_options(alloc, command, matches),
+        Err(fault) => Err(fault),
     }
 }
 
 /// The options that the words ask for. `Usage` comes exactly where they ask for nothing.
 pub fn read_words(alloc: Global, words: &Words) -> Result<Options, WordsFault>
     ensures options { IfOk result (λ options. asked words.now ≡ Some (options_of options)) }
-    ensures names { IfOk result (λ options. HasNames options.command) }
+    ensures files { IfOk result HasFiles }
     ensures usage { IsErrOf result WordsFault.Usage → asked words.now ≡ None }
 {
     let Ok(texts) = texts(alloc, words) else {
@@ -170,8 +104,5 @@ pub fn read_words(alloc: Global, words: &Words) -> Result<Options, WordsFault>
         Ok(matches) => matches,
         Err(fault) => return Err(fault),
     };
-    let k = values(&matches, "k");
-    let reducers = values(&matches, "reducers");
-    let plain = values(&matches, PLAIN);
-    read_found(alloc, k, reducers, plain)
+    read_found(alloc, &matches)
 }

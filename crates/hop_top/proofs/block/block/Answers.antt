@@ -1,14 +1,14 @@
-use Rattle.std.proofs.Common.{◌≡◌, ℕ, ◌≤◌, List, Option, None, Some, [], length, refl, ap, subst, ◌∙◌, arith, rules}
+use Rattle.std.proofs.Common.{◌≡◌, ℕ, ◌≤◌, List, Option, None, Some, [], length, ap, subst, ◌∙◌, arith, rules}
 use Rattle.std.specs.Option.{IfSome}
 use Rattle.std.specs.FinMap as map
 use Rattle.hop_base.specs.Files.{Files}
+use Rattle.hop_base.specs.Run.{RunSettings}
 use Rattle.hop_jobs.specs.Known.{known_meaning}
 use Rattle.hop_laws.specs.Blocking.{blocking_texts}
 use Rattle.hop_records.specs.Records.{first_long, records_of}
 use Rattle.hop_records.proofs.EndsLemmas.{first_long-none}
-use Rattle.hop_words.specs.Options.{block as asked_block, settings_of}
-use Rattle.hop_top.specs.Puts.{files_in}
-use Rattle.hop_top.specs.Work.{block_summary, part_files}
+use Rattle.hop_top.specs.Puts.{files_in, part_files}
+use Rattle.hop_top.specs.Work.{block_summary}
 use Rattle.hop_top.proofs.MeetsLemmas.{meets_at_end, may_block}
 use Rattle.hop_top.proofs.PartLaws.{blocking_texts-length, one_split}
 use Rattle.hop_top.proofs.block.block.Goals as goal
@@ -30,8 +30,7 @@ part_files-requires g c =
     omega (arith, c.args.settings.now.few_reducers, ap {B = _} length c.in-Ok-block.ensures, blocking_texts-length (known_meaning c.args.job.now) c.in-Ok-from_vec.book.records c.args.settings.now.reducers)
 
 pub returns-clause-meets : goal.returns-clause-meets
-returns-clause-meets g c =
-    let settings = settings_of c.args.settings.now in
+returns-clause-meets g c = λ s options is settings_are.
     let reducers = c.args.settings.now.reducers in
     let old = g.F.Folder.seen c.args.folder.now in
     let middle = g.F.Folder.seen c.read_file.new.folder in
@@ -44,6 +43,7 @@ returns-clause-meets g c =
     let files : files_in c.deref.result.now ≡ part_files 0 (blocking_texts meaning (records_of bytes) reducers) = ap files_in c.deref.ensures.value ∙ c.in-Ok-part_files.ensures ∙ ap (part_files 0) texts in
     let summary : c.as_str.result.now ≡ block_summary (length (records_of bytes)) reducers =
     c.as_str.ensures.value ∙ c.in-Ok-summary.ensures ∙ ap (λ n. block_summary n reducers) (c.records.ensures.count ∙ ap length kept) in
-    let may = may_block old meaning settings reducers c.args.input.now bytes _ _ (found old.held c.file_name.result.now c.args.input.now bytes 16777216 c.file_name.ensures c.in-Ok.ensures.read) short none files summary refl in
-    meets_at_end old middle (g.F.Folder.seen c.hand_out.new.folder) (g.O.Sink.seen c.args.out.now) (g.O.Sink.seen c.hand_out.new.out) (asked_block meaning c.args.input.now) settings
+    let may = may_block old s options meaning reducers c.args.input.now bytes _ _ is (ap (λ (o : RunSettings). o.reducers) settings_are)
+    (found old.held c.file_name.result.now c.args.input.now bytes 16777216 c.file_name.ensures c.in-Ok.ensures.read) short none files summary in
+    meets_at_end old middle (g.F.Folder.seen c.hand_out.new.folder) (g.O.Sink.seen c.args.out.now) (g.O.Sink.seen c.hand_out.new.out) s options
     [] _ _ c.hand_out.result may c.in-Ok.ensures.left.held (omega (arith, c.in-Ok.ensures.left.puts)) c.hand_out.ensures.hands

@@ -1,8 +1,7 @@
 use Rattle.std.proofs.Common.{◌≡◌, ◌+◌, [], ◌∷◌, ◌++◌, length, sym, ap, ◌∙◌, arith, length-append}
 use Rattle.std.specs.Prelude.{string_bytes}
 use Rattle.std.proofs.lemmas.List.{map-append}
-use Rattle.hop_top.specs.Puts.{file_of, files_in}
-use Rattle.hop_top.specs.Work.{part_files, part_name}
+use Rattle.hop_top.specs.Puts.{file_of, files_in, part_files, part_name}
 use Rattle.hop_top.proofs.PartLaws.{part_files-push}
 use Rattle.hop_top.proofs.block.part_files.Goals as goal
 

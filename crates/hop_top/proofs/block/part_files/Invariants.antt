@@ -1,6 +1,5 @@
 use Rattle.std.proofs.Common.{◌≡◌, length}
-use Rattle.hop_top.specs.Puts.{files_in}
-use Rattle.hop_top.specs.Work.{part_files}
+use Rattle.hop_top.specs.Puts.{files_in, part_files}
 use Rattle.hop_top.proofs.block.part_files.Given as goal
 
 abbrev pub invariant-loop-bytes : goal.invariant-loop-bytes

@@ -1,7 +1,6 @@
 use Rattle.std.proofs.Common.{◌≡◌, take}
 use Rattle.hop_ports.specs.Causes.{OnlyPut}
-use Rattle.hop_top.specs.Work.{with_files}
-use Rattle.hop_top.specs.Puts.{files_in}
+use Rattle.hop_top.specs.Puts.{files_in, with_files}
 use Rattle.hop_top.proofs.puts.put_files.Given as goal
 
 abbrev pub invariant-loop-file : goal.invariant-loop-file

@@ -1,0 +1,132 @@
+//! The values of options, by the table.
+ghost use Rattle.std.specs.Prelude.{◌≡◌, ◌≤◌, ◌∷◌, [], map, Some, None, IfOk, IfSome, IsErrOf};
+ghost use Rattle.std.specs.Option.{option_map};
+ghost use Rattle.hop_words.specs.Clap.{given_in, texts_in};
+ghost use Rattle.hop_words.specs.Names.{name_in};
+ghost use Rattle.hop_words.specs.Numbers.{number_in};
+ghost use Rattle.hop_words.specs.Options.{NamesFile, is_unset, options_untaken, command_of, settings_asked, settings_of, takes_all};
+
+use crate::fault::WordsFault;
+use crate::names::is_name;
+use crate::numbers::number_in;
+use crate::options::Command;
+use crate::parse::values;
+use clap::ArgMatches;
+use hop_base::limits::{MAX_ATTEMPTS, MAX_RECORDS, MAX_REDUCERS, MAX_WORKERS};
+use hop_base::{Marks, Settings, Text};
+use std::alloc::Global;
+
+/// The greatest number of records of a spill.
+const MAX_SPILL: u32 = 65_535;
+
+/// The greatest number of messages that a lane has room for.
+const MAX_LANE: u32 = 64;
+
+/// The number of an option: its default where it isn't given, and nothing where it is given twice or isn't in its
+/// range.
+pub fn number<'a>(
+    matches: &ArgMatches<'a>,
+    name: &str,
+    least: u32,
+    most: u32,
+    default: u32,
+) -> Option<u32>
+    requires low { least ≤ default }
+    requires high { default ≤ most }
+    ensures value { result ≡ number_in least most default (given_in matches.now name.now) }
+    ensures low { IfSome result (λ n. least ≤ n) }
+    ensures high { IfSome result (λ n. n ≤ most) }
+{
+    number_in(least, most, default, values(matches, name))
+}
+
+/// The settings that the options give; nothing where one isn't in its range.
+pub fn read_settings<'a>(alloc: Global, matches: &ArgMatches<'a>) -> Option<Settings>
+    ensures { option_map settings_of result ≡ settings_asked (given_in matches.now) }
+{
+    let reducers = number(matches, "reducers", 1, MAX_REDUCERS as u32, 1)?;
+    let split = number(matches, "split", 1, MAX_RECORDS, 16_384)?;
+    let spill = number(matches, "spill", 1, MAX_SPILL, 1_000)?;
+    let workers = number(matches, "workers", 1, MAX_WORKERS as u32, 2)?;
+    let attempts = number(matches, "attempts", 1, MAX_ATTEMPTS as u32, 4)?;
+    let lane = number(matches, "lane", 1, MAX_LANE, 2)?;
+    Some(Settings {
+        reducers: reducers as u8,
+        split,
+        spill,
+        workers: workers as u8,
+        attempts: attempts as u8,
+        lane: lane as u8,
+        mergers: 1,
+        threads: 4,
+        backup: false,
+        tentative: true,
+        marks: Marks::new(alloc),
+    })
+}
+
+/// The name of a file that an option gives, where it is given. `Usage` comes exactly where it is given twice, or is no
+/// name.
+pub fn read_name<'a>(
+    alloc: Global,
+    matches: &ArgMatches<'a>,
+    option: &str,
+) -> Result<Option<Text>, WordsFault>
+    ensures name { IfOk result (λ name. name_in (given_in matches.now option.now) ≡ Some name) }
+    ensures names { IfOk result NamesFile }
+    ensures usage { IsErrOf result WordsFault.Usage → name_in (given_in matches.now option.now) ≡ None }
+{
+    match values(matches, option) {
+        None | Some([]) => Ok(None),
+        Some([name]) => read_one_name(alloc, name),
+        Some(_) => Err(WordsFault::Usage),
+    }
+}
+
+// A name of a file.
+fn read_one_name(alloc: Global, name: &str) -> Result<Option<Text>, WordsFault>
+    ensures name { IfOk result (λ found. name_in (name.now ∷ []) ≡ Some found) }
+    ensures names { IfOk result NamesFile }
+    ensures usage { IsErrOf result WordsFault.Usage → name_in (name.now ∷ []) ≡ None }
+{
+    if !is_name(name.as_bytes()) {
+        return Err(WordsFault::Usage);
+    }
+    match Text::from_slice(alloc, name.as_bytes()) {
+        Ok(name) => Ok(Some(name)),
+        Err(_) => Err(WordsFault::NoMemory),
+    }
+}
+
+fn is_unset<'a>(matches: &ArgMatches<'a>, name: &str) -> bool
+    ensures { result ≡ is_unset (given_in matches.now name.now) }
+{
+    match values(matches, name) {
+        None => true,
+        Some(values) => values.is_empty(),
+    }
+}
+
+// The options that a command doesn't take.
+fn options_untaken(command: &Command) -> &'static [&'static str]
+    ensures { map (λ name. name.now) result.now ≡ options_untaken (command_of command.now) }
+{
+    match command {
+        Command::Block { .. } => {
+            &[
+                "split", "spill", "workers", "attempts", "lane", "script", "turns",
+            ]
+        }
+        Command::Run { .. } => &["turns"],
+        Command::Replay { .. } => &[],
+    }
+}
+
+/// Whether no option is given that the command doesn't take.
+pub fn takes_all<'a>(command: &Command, matches: &ArgMatches<'a>) -> bool
+    ensures { result ≡ takes_all (command_of command.now) (given_in matches.now) }
+{
+    options_untaken(command)
+        .iter()
+        .all(|name| is_unset(matches, name))
+}
