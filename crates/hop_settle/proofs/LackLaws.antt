@@ -149,8 +149,7 @@ module _ (ms : List Mapper) (r : Reducer) (d : Deeds) where
       let here : upto i n k < slice_index r.setup.lens i = omega (arith, full, short) in
       let alive = (wins (rules_of r.setup) r.number i n k (legal_here h.calm) w).alive in
       let made : Part = record { split = i; attempt = n; from = upto i n k; to = slice_index r.setup.lens i } in
-      let is : made ≡ part = (λ t. record { split = i; attempt = n; from = sym from t; to = (full ∙ sym to) t }) in
-      (
+      let is : made ≡ part = (λ t. record { split = i; attempt = n; from = sym from t; to = (full ∙ sym to) t }) in (
         subst (λ (q : Part). MayPull r q d) is (record {
           restarted_before = h.restarted n w short;
           wants = (λ t. not (alive t) && no_other (winner i k) n) ∙ alone_is (winner i k) n w;
@@ -199,11 +198,13 @@ pub may-begin : (e : Bool) (b c : World) (n : ℕ) → IsAtPlace (Emptying 0) b.
 may-begin e b c n home met w l again gathered =
     let at = emptied_lanes e b c n home met w l again in
     let h = at.0 in
-    let many : c.deeds.setup.reducers ≤ n = let k = ltb-false n (length c.actors.reducers) l in let m = h.ready.home.reducers in omega (arith, k, m) in
-    (l, record {
-      ends = record { home = h.ready.home; none = h.ready.none; ended = h.ended; emptied = at.1; gathered = gathered };
-      closed = λ q m k. absurd (omega arith);
-      «open» = λ q m k. h.ready.«open» q k;
-      no_restart = λ q m k. h.no_restart q (omega (arith, k, many)) k;
-      there = λ j a m. absurd (omega arith);
-    })
+    let many : c.deeds.setup.reducers ≤ n = let k = ltb-false n (length c.actors.reducers) l in let m = h.ready.home.reducers in omega (arith, k, m) in (
+      l,
+      record {
+        ends = record { home = h.ready.home; none = h.ready.none; ended = h.ended; emptied = at.1; gathered = gathered };
+        closed = λ q m k. absurd (omega arith);
+        «open» = λ q m k. h.ready.«open» q k;
+        no_restart = λ q m k. h.no_restart q (omega (arith, k, many)) k;
+        there = λ j a m. absurd (omega arith);
+      },
+    )

@@ -8,10 +8,7 @@ use hop_base::RunName;
 use hop_inner::Reach;
 
 /// Of each split, one more than the greatest attempt that some mapper began.
-pub fn count_begun<N: RunName, E: Reach<N>, M: Store<N, E>>(
-    mappers: &Vec<M>,
-    begun: &mut [u8],
-)
+pub fn count_begun<N: RunName, E: Reach<N>, M: Store<N, E>>(mappers: &Vec<M>, begun: &mut [u8])
     requires few { length begun.old ≤ 1024 }
     ensures count { length begun.new ≡ length begun.old }
     ensures counted { AreCounted (map M.mapper mappers.now.items) begun.new }

@@ -87,13 +87,7 @@ fn finish_all<N: RunName, E: Reach<N>, M: Store<N, E>, D: Taker<N, E>>(
 /// writer has turns until it is idle. (The end of a job of NSDI 2010, "MapReduce Online".) All actors are at home where a turn list ends.
 ///
 /// It always ends. At Ok the run came to its end; a fault is that of the actor that stopped, where the run is halted or a split has no attempt left.
-pub fn settle<
-    N: RunName,
-    E: Reach<N>,
-    M: Store<N, E>,
-    D: Taker<N, E>,
-    W: SnapshotWriter<N, E>,
->(
+pub fn settle<N: RunName, E: Reach<N>, M: Store<N, E>, D: Taker<N, E>, W: SnapshotWriter<N, E>>(
     mappers: &mut Vec<M>,
     reducers: &mut Vec<D>,
     writer: &mut W,

@@ -397,11 +397,7 @@ fn says_how_a_run_ended(rt: HostRuntime) -> Result<(), Fail> {
             3,
             "hop: 65537 spills are too many\n",
         ),
-        (
-            line,
-            4,
-            "hop: line 12 of the turn list is not understood\n",
-        ),
+        (line, 4, "hop: line 12 of the turn list is not understood\n"),
         (
             Outcome::RetriesSpent { split: 3 },
             5,

@@ -88,7 +88,9 @@ fn summary_line(
 ) -> Result<String, AllocError>
     ensures { IfOk result (λ text. string_bytes text ≡ summary_text records splits parts snapshots attempts pulled settled) }
 {
-    format!(in alloc; "done records={records} splits={splits} parts={parts} snapshots={snapshots} attempts={attempts} pulled={pulled} settled={settled}\n")
+    format!(in alloc;
+        "done records={records} splits={splits} parts={parts} snapshots={snapshots} attempts={attempts} pulled={pulled} settled={settled}\n"
+    )
 }
 
 /// What is printed at the end of a run without marks, of at most 1,024 splits and 8 reducers.

@@ -92,7 +92,7 @@ gather-requires g c =
     let ms = map k c.args.mappers.now.items in let ss = map f c.all_late.new.reducers.items in let a = E.deeds c.args.reach.now in let b = E.deeds n.new.reach in
     all_kept a (E.deeds c.meet_all-2.new.reach)
     (c.meet_all-2.ensures.learns.setup ∙ c.in_ok-drain_all.ensures.drained.setup ∙ c.meet_all.ensures.learns.setup
-        ∙ went_same e (Passing (flags_of ms), world_of ms ss x a) (Emptying 0, world_of (map k n.new.mappers.items) (map f n.new.reducers.items) x b) (c.in_ok-passes.ensures.went x))
+    ∙ went_same e (Passing (flags_of ms), world_of ms ss x a) (Emptying 0, world_of (map k n.new.mappers.items) (map f n.new.reducers.items) x b) (c.in_ok-passes.ensures.went x))
     (c.meet_all-2.ensures.ends ∙ c.drain_all.ensures.ends ∙ c.meet_all.ensures.ends ∙ n.ensures.ends) c.requires.ends
 
 pub returns-clause-worked : goal.returns-clause-worked
@@ -141,10 +141,9 @@ returns-clause-ends g c =
     let ms = map k c.args.mappers.now.items in let ss = map f c.all_late.new.reducers.items in let a = E.deeds c.args.reach.now in let b = E.deeds n.new.reach in
     let has = all_kept a v
     (c.meet_all-2.ensures.learns.setup ∙ c.in_ok-drain_all.ensures.drained.setup ∙ c.meet_all.ensures.learns.setup
-        ∙ went_same E.exact (Passing (flags_of ms), world_of ms ss x a) (Emptying 0, world_of (map k n.new.mappers.items) (map f n.new.reducers.items) x b) (c.in_ok-passes.ensures.went x))
+    ∙ went_same E.exact (Passing (flags_of ms), world_of ms ss x a) (Emptying 0, world_of (map k n.new.mappers.items) (map f n.new.reducers.items) x b) (c.in_ok-passes.ensures.went x))
     (c.meet_all-2.ensures.ends ∙ c.drain_all.ensures.ends ∙ c.meet_all.ensures.ends ∙ n.ensures.ends) c.requires.ends in
-    let law = c.ends_are_gathered.ensures in
-    (
+    let law = c.ends_are_gathered.ensures in (
       λ p l. law.reducer v z c.gather.ensures p (has.reducer p (let s = ap (λ (s : Setup). s.reducers) (law.learns v z c.gather.ensures E.exact).setup in omega (arith, s, l))),
       law.writer v z c.gather.ensures has.writer,
     )

@@ -68,8 +68,7 @@ finish_one-requires-clause-home g c =
     let D : World = world_of (map k n.new.mappers.items) us x d in
     let w = went_both e (Pulling 0 0, A) (Pulling l.p 0, B) (Pulling l.p (length c.args.begun.now), D) (l.invariant.went x) (c.in_ok-pull_all.ensures.went x) in
     let same = went_same e (Pulling 0 0, A) (Pulling l.p (length c.args.begun.now), D) w in
-    let many : length c.args.begun.now ≡ splits_of d.setup = (c.requires.begun us x).count ∙ ap (λ (s : Setup). length s.lens) (sym same) in
-    (
+    let many : length c.args.begun.now ≡ splits_of d.setup = (c.requires.begun us x).count ∙ ap (λ (s : Setup). length s.lens) (sym same) in (
       map k n.new.mappers.items,
       x,
       record {

@@ -117,4 +117,3 @@ returns-clause-less g c = λ some room.
     let first = drained-left e 0 ns G b b d (drained-start b) c.meet_all.ensures.learns in
     let second = drained-left e (length c.args.reducers.now.items) ns G d u z c.in_ok-drain_all.ensures.drained c.meet_all-2.ensures.learns in
     omega (arith, less, first, second)
-
