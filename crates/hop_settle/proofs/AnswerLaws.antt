@@ -1,6 +1,5 @@
 -- What the code reads off the answer of a turn.
-use Rattle.std.proofs.Common.{◌≡◌, Bool, true, false, List, refl, sym, ap, ◌∙◌, subst, Ok, Err, Result, OnOk, IfErr}
-use Rattle.hop_machine.specs.declared.words.Turn.TheVariants as said
+use Rattle.std.proofs.Common.{◌≡◌, true, false, List, refl, sym, ◌∙◌, subst, OnOk, IfErr}
 use Rattle.hop_machine.specs.home.MapperHome.{has_failed}
 use Rattle.hop_machine.specs.play.Play.{Place, unless_spent}
 use Rattle.hop_actors.specs.declared.turn.Turn.{Turn}

@@ -1,5 +1,5 @@
 -- The counted numbers are those of the attempts that were begun.
-use Rattle.std.proofs.Common.{◌≡◌, ℕ, zero, suc, max, ◌+◌, ◌≤◌, ◌<◌, List, [], ◌∷◌, length, refl, sym, ap, ◌∙◌, subst, ◌⊎◌, ⊎_elim, false, arith, Option, Some, None, unwrap_or, slice_index}
+use Rattle.std.proofs.Common.{◌≡◌, ℕ, zero, suc, ◌≤◌, ◌<◌, List, [], ◌∷◌, length, refl, ap, ⊎_elim, false, arith, Some, unwrap_or, slice_index}
 use Rattle.std.specs.List.{slice_get}
 use Rattle.hop_machine.specs.step.Steps.{Setup, rules_of}
 use Rattle.hop_machine.specs.actors.MapperTurns.{Mapper}

@@ -1,12 +1,12 @@
 -- How much there is left for the mappers to do, at most.
-use Rattle.std.proofs.Common.{◌≡◌, ℕ, zero, suc, ◌+◌, ◌*◌, ◌-◌, ◌^◌, ◌≤◌, ◌<◌, ◌==◌, Bool, true, false, List, [], ◌∷◌, ◌++◌, length, length-append, refl, sym, ap, ◌∙◌, subst, cond, arith, Option, Some, None, max, slice_index, slice_index_or}
+use Rattle.std.proofs.Common.{◌≡◌, ℕ, zero, suc, ◌+◌, ◌*◌, ◌-◌, ◌^◌, ◌≤◌, ◌<◌, ◌==◌, Bool, true, false, List, [], ◌∷◌, length, length-append, refl, ap, ◌∙◌, cond, arith, Option, Some, None, slice_index, slice_index_or}
 use Rattle.std.specs.List.{slice_get}
 use Rattle.std.proofs.Math.Nat.{mul_comm}
 use Rattle.hop_base.specs.Run.{delay_of}
 use Rattle.hop_event.specs.Legal.{Rules}
 use Rattle.hop_machine.specs.declared.words.Message.{Message}
 use Rattle.hop_machine.specs.step.Steps.{Deeds, Seat, Setup, rules_of}
-use Rattle.hop_machine.specs.actors.MapperTurns.{Mapper, Work, Running, Runs, Retries, Free, len_of}
+use Rattle.hop_machine.specs.actors.MapperTurns.{Mapper, Work, Runs, Retries, Free, len_of}
 use Rattle.hop_machine.specs.home.Said.{seat_of, held_for}
 use Rattle.hop_machine.specs.settling.Settling.{total, one_unless, has_number, has_drawn, ungiven, undrawn, held_sum, turns_left, work_left, longest, attempt_left, left_of, mapper_left, flag_at, pass_left, most_messages}
 use Rattle.hop_machine.specs.home.Said.{pushes}

@@ -1,19 +1,18 @@
 -- Catching up a reducer.
-use Rattle.std.proofs.Common.{◌≡◌, ℕ, ◌+◌, ◌≤◌, ◌<◌, Bool, true, false, List, [], ◌∷◌, length, refl, sym, ap, ◌∙◌, subst, cond, slice_set, Option, Some, None, Result, Ok, Err, is_ok, arith}
+use Rattle.std.proofs.Common.{◌≡◌, ℕ, ◌+◌, ◌<◌, Bool, true, false, List, [], ◌∷◌, length, refl, sym, ap, subst, cond, slice_set, Option, Some, None, Result, Ok, Err, is_ok, arith}
 use Rattle.std.specs.Prelude.{IsErr, IfErr}
 use Rattle.std.specs.List.{slice_get}
-use Rattle.std.proofs.lemmas.Bool.{true≢false, le-ltb}
+use Rattle.std.proofs.lemmas.Bool.{true≢false}
 use Rattle.hop_machine.specs.declared.words.Turn.TheVariants as said
 use Rattle.hop_machine.specs.step.Setup.{splits_of}
-use Rattle.hop_machine.specs.step.Steps.{Prog, Done, and_then, Deeds, Runs}
+use Rattle.hop_machine.specs.step.Steps.{Done, and_then, Deeds, Runs}
 use Rattle.hop_machine.specs.actors.MapperTurns.{Mapper}
 use Rattle.hop_machine.specs.actors.ReducerTurns.{Reducer, Writer, restart_if_due}
-use Rattle.hop_machine.specs.home.Conditions.{HasReducer, HasAll}
-use Rattle.hop_machine.specs.play.Play.{Row, Order, Place, World, Went, CatchingUp, Listed, Halted, unless_spent, unless_halted, unless_restarted, is_caught_up, kept_rows, pull_row, pull_rows, catch_up}
+use Rattle.hop_machine.specs.home.Conditions.{HasAll}
+use Rattle.hop_machine.specs.play.Play.{Row, Order, Place, Went, CatchingUp, Halted, unless_spent, unless_halted, unless_restarted, is_caught_up, kept_rows, pull_row, pull_rows, catch_up}
 use Rattle.hop_machine.specs.run.AllHome.{Ready}
 use Rattle.hop_machine.proofs.step.Programs.{Runs-and_then, Runs-parted}
-use Rattle.hop_machine.proofs.play.Plays.{went_both}
-use Rattle.hop_machine.proofs.play.Going.{catches-up, caught-up}
+use Rattle.hop_machine.proofs.play.Going.{catches-up}
 use Rattle.hop_machine.proofs.run.CatchingLaws.{now-ready, lag-begins}
 use Rattle.hop_machine.proofs.step.Owners.{Runs-rightly, Runs-ends}
 use Rattle.hop_machine.proofs.home.Here.{reducer_kept}

@@ -1,5 +1,5 @@
 -- A turn of a reducer of a list, while a run is settled.
-use Rattle.std.proofs.Common.{◌≡◌, ℕ, ◌+◌, ◌<◌, ◌≤◌, ◌⊎◌, nat_lt, Bool, true, false, List, length, refl, sym, ap, ◌∙◌, subst, inl, inr, ⊎_elim, cond, arith, Some, Ok, Err, Result, slice_set}
+use Rattle.std.proofs.Common.{◌≡◌, ℕ, ◌+◌, ◌<◌, ◌≤◌, ◌⊎◌, nat_lt, Bool, true, false, List, length, refl, sym, ap, ◌∙◌, subst, inl, inr, cond, arith, Some, Ok, Err, Result}
 use Rattle.std.specs.List.{slice_get}
 use Rattle.std.proofs.lemmas.Bool.Decides.{nat_tests}
 use Rattle.std.proofs.lemmas.List.{length-set}
@@ -11,7 +11,7 @@ use Rattle.hop_machine.specs.actors.MapperTurns.{Mapper}
 use Rattle.hop_machine.specs.actors.ReducerTurns.{Reducer, Writer, reducer_turn}
 use Rattle.hop_machine.specs.home.Conditions.{HasReducer, HasAll}
 use Rattle.hop_machine.specs.home.ReducerHome.{NoneDue}
-use Rattle.hop_machine.specs.play.Play.{World, Actors, Place, Turned, Went, once_idle, Draining, Passing, Halted}
+use Rattle.hop_machine.specs.play.Play.{Actors, Place, Turned, Went, once_idle, Draining, Passing, Halted}
 use Rattle.hop_machine.specs.run.AllHome.{Ready, AllLate, IsAtPlace}
 use Rattle.hop_machine.specs.settling.Settling.{DrainsLate, Drained, BoundsLists, drain_left}
 use Rattle.hop_machine.proofs.step.Owners.{Runs-only, Runs-ends}

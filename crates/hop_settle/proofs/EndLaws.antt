@@ -1,20 +1,17 @@
 -- From the end of a turn list to the end of the run.
-use Rattle.std.proofs.Common.{◌≡◌, ℕ, ◌<◌, Bool, false, List, [], length, map, nat_lt, refl, sym, ap, ◌∙◌, subst}
-use Rattle.hop_machine.specs.step.Steps.{Deeds, Ends, Setup, rules_of}
+use Rattle.std.proofs.Common.{◌≡◌, ℕ, Bool, false, List, [], length, map, nat_lt, refl, sym, ap, subst}
+use Rattle.hop_machine.specs.step.Steps.{Deeds}
 use Rattle.hop_machine.specs.actors.MapperTurns.{Mapper}
 use Rattle.hop_machine.specs.actors.ReducerTurns.{Reducer, Writer}
-use Rattle.hop_machine.specs.board.Board.{Gathered}
-use Rattle.hop_machine.specs.home.Conditions.{HasAll, HasReducer, HasWriter}
-use Rattle.hop_machine.specs.play.Play.{World, Place, Listed, Passing, Emptying, Pulling, Writing, Over, Went, Learns, is_late}
-use Rattle.hop_machine.specs.run.AllHome.{IsAtPlace, IsPulling, Pulls, RanToItsEnd}
+use Rattle.hop_machine.specs.play.Play.{World, Place, Listed, Passing, Emptying, Pulling, Over, Went, Learns, is_late}
+use Rattle.hop_machine.specs.run.AllHome.{IsAtPlace, Pulls, RanToItsEnd}
 use Rattle.hop_machine.specs.settling.Settling.{AllMet}
 use Rattle.hop_machine.specs.settling.Meeting.{Gathers}
-use Rattle.hop_machine.proofs.play.Plays.{went_both, went_learns, went_same}
+use Rattle.hop_machine.proofs.play.Plays.{went_both, went_learns}
 use Rattle.hop_machine.proofs.play.Going.{begins-settling, empties-over}
 use Rattle.hop_machine.proofs.run.Places.{went_at_home}
 use Rattle.hop_machine.proofs.run.Ending.{went_pulling}
 use Rattle.hop_settle.specs.Crews.{actors_of, world_of, flags_of}
-use Rattle.hop_settle.specs.Lacking.{HasReducers}
 use Rattle.hop_settle.specs.Settled.{WorkedOff}
 use Rattle.hop_settle.proofs.LackLaws.{may-begin}
 

@@ -1,5 +1,5 @@
 -- What a reducer lacks once all mappers have ended.
-use Rattle.std.proofs.Common.{◌≡◌, ℕ, zero, suc, ◌+◌, ◌&&◌, All, nat_lt, ◌<◌, ◌≤◌, ◌⊎◌, Bool, true, false, not, List, [], ◌∷◌, length, max, refl, sym, ap, ◌∙◌, subst, inl, inr, arith, Option, Some, None, slice_index}
+use Rattle.std.proofs.Common.{◌≡◌, ℕ, zero, suc, ◌&&◌, nat_lt, ◌<◌, ◌≤◌, Bool, false, not, List, [], ◌∷◌, length, refl, sym, ap, ◌∙◌, subst, arith, Option, Some, None, slice_index}
 use Rattle.std.specs.List.{slice_get}
 use Rattle.std.proofs.Math.Nat.{zero-mod}
 use Rattle.std.proofs.lemmas.Bool.{ltb-false}
@@ -18,13 +18,13 @@ use Rattle.hop_machine.specs.step.Pushing.{kept_end, end_by}
 use Rattle.hop_machine.specs.actors.MapperTurns.{Mapper, Work}
 use Rattle.hop_machine.specs.actors.ReducerTurns.{Reducer, reads_winner, reads_upto, must_restart}
 use Rattle.hop_machine.specs.home.Said.{history_of, BeganBy, IsAtWork}
-use Rattle.hop_machine.specs.home.ReducerHome.{MayPull, NoneDue}
+use Rattle.hop_machine.specs.home.ReducerHome.{MayPull}
 use Rattle.hop_machine.specs.board.Board.{Gathered}
 use Rattle.hop_machine.specs.play.Play.{Actors, World, Emptying, Went, kept_by}
 use Rattle.hop_machine.specs.settling.Settling.{AllMet}
 use Rattle.hop_machine.specs.run.AllHome.{Pulls, IsAtPlace, IsPulling, ReducerIsHome, NoRestartDue, mapper_of}
-use Rattle.hop_machine.specs.run.Catches.{ReducerNow, ReducerAfter, ReducerCalm, AreHome}
-use Rattle.hop_machine.specs.ending.Finishing.{AreBegun, HasPulled}
+use Rattle.hop_machine.specs.run.Catches.{ReducerAfter, ReducerCalm}
+use Rattle.hop_machine.specs.ending.Finishing.{HasPulled}
 use Rattle.hop_machine.proofs.mapper.AtHome.{at_home_says}
 use Rattle.hop_machine.proofs.ending.CatchingUp.{is-kept}
 use Rattle.hop_machine.proofs.ending.KeptEnds.{kept_end-within}

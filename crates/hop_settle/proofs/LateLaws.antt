@@ -1,5 +1,5 @@
 -- The first reducers of a list wait for their locks.
-use Rattle.std.proofs.Common.{◌≡◌, ℕ, zero, suc, ◌+◌, ◌<◌, List, [], ◌∷◌, length, map, refl, sym, ap, ◌∙◌, arith, Option, Some, slice_set}
+use Rattle.std.proofs.Common.{◌≡◌, ℕ, zero, suc, ◌+◌, List, [], ◌∷◌, length, map, refl, sym, ap, arith, Some, slice_set}
 use Rattle.std.specs.List.{slice_get}
 use Rattle.hop_machine.specs.actors.ReducerTurns.{Reducer}
 use Rattle.hop_machine.specs.play.Play.{is_late}

@@ -1,17 +1,17 @@
 -- A turn of a mapper of a list.
-use Rattle.std.proofs.Common.{◌≡◌, ℕ, zero, suc, ◌&&◌, [], ◌∷◌, ◌+◌, ◌^◌, ◌≤◌, ◌<◌, ◌⊎◌, Bool, true, false, List, length, map, refl, sym, ap, ◌∙◌, subst, inl, inr, ⊎_elim, cond, arith, Some, slice_set, slice_index_or}
+use Rattle.std.proofs.Common.{◌≡◌, ℕ, zero, suc, ◌&&◌, [], ◌∷◌, ◌+◌, ◌^◌, ◌≤◌, ◌<◌, ◌⊎◌, Bool, true, false, List, length, refl, sym, ap, ◌∙◌, subst, inl, inr, ⊎_elim, cond, arith, Some, slice_set, slice_index_or}
 use Rattle.std.specs.List.{slice_get}
 use Rattle.std.proofs.lemmas.List.{length-set, length-map, map-set}
 use Rattle.std.proofs.lemmas.Option.{get_or_from_slice_get}
 use Rattle.hop_machine.specs.declared.words.Turn.{Turn}
 use Rattle.hop_machine.specs.declared.words.Turn.TheVariants as said
 use Rattle.hop_machine.specs.declared.words.Who.TheVariants as whose
-use Rattle.hop_machine.specs.step.Steps.{Deeds, Setup, Runs, Done, and_then}
+use Rattle.hop_machine.specs.step.Steps.{Deeds, Runs, Done, and_then}
 use Rattle.hop_machine.specs.actors.MapperTurns.{Mapper, mapper_turn, open_turn, with_end, counted, is_ended}
 use Rattle.hop_machine.specs.actors.ReducerTurns.{Reducer, Writer}
 use Rattle.hop_machine.specs.home.Conditions.{HasMapper, HasAll}
 use Rattle.hop_machine.specs.home.MapperHome.{has_failed}
-use Rattle.hop_machine.specs.play.Play.{World, Actors, Place, Mapping, Turned, Went, has_ended, unless_spent, all_true}
+use Rattle.hop_machine.specs.play.Play.{Actors, Mapping, Turned, Went, has_ended, unless_spent, all_true}
 use Rattle.hop_machine.specs.run.AllHome.{Ready}
 use Rattle.hop_machine.specs.settling.Settling.{AreOfRun, MapFell, PassFell, flag_at}
 use Rattle.hop_machine.proofs.step.Programs.{Runs-parted}

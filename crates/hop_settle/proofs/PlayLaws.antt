@@ -1,20 +1,20 @@
 -- The turns of a turn list.
-use Rattle.std.proofs.Common.{◌≡◌, ◌⊎◌, ⊎_elim, ℕ, zero, suc, ◌+◌, ◌-◌, ◌≤◌, ◌<◌, Bool, true, false, List, [], ◌∷◌, length, refl, sym, ap, ◌∙◌, subst, slice_set, get_or, drop, drop-cons, add-one, Some, Result, Ok, Err, arith}
+use Rattle.std.proofs.Common.{◌≡◌, ⊎_elim, ℕ, suc, ◌+◌, ◌-◌, ◌≤◌, ◌<◌, Bool, List, ◌∷◌, length, refl, sym, ap, ◌∙◌, subst, slice_set, get_or, drop, drop-cons, add-one, Some, Result, Ok, Err, arith}
 use Rattle.hop_script.specs.declared.turn.Turn.{Turn as Line}
 use Rattle.std.proofs.lemmas.List.Sums.{sum_by-drop_more}
 use Rattle.hop_script.specs.TurnLines.{turn_count}
 use Rattle.std.specs.Prelude.{OnOk, IfErr}
 use Rattle.std.specs.List.{slice_get}
 use Rattle.hop_machine.specs.declared.words.Turn.{Turn as Said}
-use Rattle.hop_machine.specs.step.Steps.{Prog, Done, Ends, Deeds, Runs}
+use Rattle.hop_machine.specs.step.Steps.{Done, Ends, Deeds, Runs}
 use Rattle.hop_machine.specs.actors.MapperTurns.{Mapper}
 use Rattle.hop_machine.specs.actors.ReducerTurns.{Reducer, Writer, send_due}
 use Rattle.hop_machine.specs.home.Conditions.{HasReducer, HasAll}
-use Rattle.hop_machine.specs.play.Play.{Order, Actors, Place, World, Went, Opening, Listed, Learns, unless_halted}
+use Rattle.hop_machine.specs.play.Play.{Order, Actors, Place, World, Went, Opening, Learns, unless_halted}
 use Rattle.hop_machine.specs.run.AllHome.{Opens}
 use Rattle.hop_machine.proofs.step.Programs.{Runs-and_then}
 use Rattle.hop_machine.proofs.play.Plays.{went_both}
-use Rattle.hop_machine.proofs.play.Going.{opens, opened}
+use Rattle.hop_machine.proofs.play.Going.{opens}
 use Rattle.hop_machine.proofs.settling.Passes.{get_set}
 use Rattle.hop_actors.specs.declared.fault.Fault.{Fault}
 use Rattle.hop_actors.specs.declared.fault.Fault.TheVariants as fault
@@ -22,7 +22,7 @@ use Rattle.hop_actors.specs.Acting.{Acting, Merges, Turned, MayCall}
 use Rattle.hop_actors.specs.Counting.{Counts, MemoryCause, TurnCause}
 use Rattle.hop_actors.specs.declared.turn.Turn.{Turn}
 use Rattle.hop_actors.specs.declared.turn.Turn.TheVariants as answer
-use Rattle.hop_settle.specs.Crews.{AreWell, TurnsBelow, actors_of, world_of}
+use Rattle.hop_settle.specs.Crews.{AreWell, TurnsBelow, world_of}
 use Rattle.hop_settle.specs.Playing.{AreMergers, EndsAt, WentOn, order_of, orders_of, repeated}
 use Rattle.hop_settle.specs.Stops.{place_after}
 

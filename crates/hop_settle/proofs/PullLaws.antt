@@ -1,11 +1,10 @@
 -- A pull, call by call.
 use Rattle.std.proofs.Common.{◌≡◌, ◌⊎◌, ℕ, ◌≤◌, ◌<◌, Bool, true, false, List, [], ◌∷◌, refl, sym, ap, ◌∙◌, subst, inl, inr, Option, Some, None, arith}
-use Rattle.std.specs.List.{slice_get}
 use Rattle.hop_base.specs.declared.part.Part.{Part}
 use Rattle.hop_event.specs.Legal.{Rules}
 use Rattle.hop_event.specs.declared.event.Event.TheVariants.{Arrive}
 use Rattle.hop_event.specs.declared.event.Via.TheVariants.{Pull}
-use Rattle.hop_machine.specs.step.Steps.{Prog, Done, Risk, and_then, Ends, Deeds, Setup, Runs, rules_of}
+use Rattle.hop_machine.specs.step.Steps.{Prog, and_then, Ends, Deeds, Runs, rules_of}
 use Rattle.hop_machine.specs.actors.MapperTurns.{Mapper}
 use Rattle.hop_machine.specs.actors.ReducerTurns.{Reducer, marks_due, take_pull, send_due, restart_if_due}
 use Rattle.hop_machine.specs.home.Said.{history_of}
@@ -17,10 +16,8 @@ use Rattle.hop_machine.proofs.step.Owners.{Runs-rightly, Runs-ends}
 use Rattle.hop_machine.proofs.home.Here.{reducer_kept}
 use Rattle.hop_machine.proofs.reducer.Calls.{take_pull-left, send_due-left}
 use Rattle.hop_actors.specs.Acting.{MayCall}
-use Rattle.hop_actors.specs.Spilled.{MayFetch}
 use Rattle.hop_settle.specs.Crews.{AreWell}
 use Rattle.hop_settle.specs.Pulled.{MayAllFetch, MayPullAt, records_pull}
-use Rattle.hop_settle.proofs.KeeperLaws.{kept-above}
 
 -- a reducer at home after a call may be called again
 pub may-again : {A : Type 0} (e : Bool) (r y : Reducer) (k : Prog A) (z : A) (a b : Deeds) → MayCall r a → Runs e k a z b → y.number ≡ r.number → ReducerAtHome y b → MayCall y b

@@ -1,5 +1,5 @@
 -- What a call that failed is, for the machine.
-use Rattle.std.proofs.Common.{◌≡◌, ℕ, Bool, true, false, List, Some, slice_set, refl, sym, subst, inl, Option, None, Result, Ok, Err}
+use Rattle.std.proofs.Common.{◌≡◌, ℕ, List, Some, slice_set, refl, sym, subst, inl, None, Result, Ok, Err}
 use Rattle.std.specs.Prelude.{IsErr, OnOk, IfErr}
 use Rattle.std.specs.List.{slice_get}
 use Rattle.std.proofs.lemmas.Bool.{true≢false}

@@ -1,13 +1,11 @@
 -- Rows of kept spills, pulled one after another.
-use Rattle.std.proofs.Common.{◌≡◌, ◌⊎◌, ℕ, zero, suc, ◌+◌, ◌-◌, ◌≤◌, ◌<◌, Bool, true, false, List, [], ◌∷◌, ◌++◌, append-nil, append_assoc, refl, sym, ap, ◌∙◌, subst, cond, nat_lt, Option, Some, None, add-one, arith}
+use Rattle.std.proofs.Common.{◌≡◌, ℕ, zero, suc, ◌+◌, ◌-◌, ◌≤◌, ◌<◌, Bool, true, false, List, [], ◌∷◌, ◌++◌, append-nil, append_assoc, refl, sym, ap, ◌∙◌, subst, cond, nat_lt, Option, Some, None, arith}
 use Rattle.std.proofs.lemmas.Bool.{lt-ltb}
 use Rattle.std.specs.List.{slice_get}
 use Rattle.hop_base.specs.declared.part.Part.{Part}
 use Rattle.hop_machine.specs.step.Steps.{Prog, Done, and_then, Deeds, Runs}
 use Rattle.hop_machine.specs.actors.MapperTurns.{Mapper}
 use Rattle.hop_machine.specs.actors.ReducerTurns.{Reducer, wanted, reads_wants, reads_upto}
-use Rattle.hop_machine.specs.home.Said.{history_of}
-use Rattle.hop_machine.specs.home.ReducerHome.{MayPull}
 use Rattle.hop_machine.specs.home.Conditions.{HasReducer}
 use Rattle.hop_machine.specs.play.Play.{Row, kept_by, with_row, rows_of_split, kept_rows, pull, pull_to, pull_row}
 use Rattle.hop_machine.specs.run.Catches.{AreHome, Lagging}

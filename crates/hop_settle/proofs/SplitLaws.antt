@@ -1,9 +1,7 @@
 -- What is lacking of a split's winner, from what the calls for it ran.
-use Rattle.std.proofs.Common.{◌≡◌, ℕ, ◌+◌, ◌<◌, ◌≤◌, ◌⊎◌, inl, inr, Bool, true, false, List, length, refl, sym, ap, ◌∙◌, subst, cond, nat_lt, Option, Some, None, Result, Ok, Err, IfOk, slice_index, slice_set, arith}
+use Rattle.std.proofs.Common.{◌≡◌, ℕ, ◌<◌, ◌≤◌, ◌⊎◌, inl, inr, Bool, true, false, List, length, refl, sym, ap, ◌∙◌, subst, cond, Option, Some, None, Result, Ok, Err, IfOk, slice_index, slice_set, arith}
 use Rattle.std.specs.List.{slice_get}
-use Rattle.hop_base.specs.declared.part.Part.{Part}
 use Rattle.hop_event.specs.History.{winner, upto}
-use Rattle.hop_machine.specs.declared.words.Who.TheVariants as whose
 use Rattle.std.proofs.lemmas.Bool.{lt-ltb}
 use Rattle.hop_machine.specs.step.Steps.{Deeds, Ends, Prog, Done, Runs}
 use Rattle.hop_machine.specs.step.Setup.{splits_of}
@@ -11,7 +9,7 @@ use Rattle.hop_machine.specs.actors.MapperTurns.{Mapper}
 use Rattle.hop_machine.specs.actors.ReducerTurns.{Reducer, Writer, reads_winner, reads_upto}
 use Rattle.hop_machine.specs.home.Conditions.{HasReducer}
 use Rattle.hop_machine.specs.home.Said.{history_of}
-use Rattle.hop_machine.specs.play.Play.{World, Pulling, Went, pull, pull_to, pull_winner, pull_split, after_pull}
+use Rattle.hop_machine.specs.play.Play.{Pulling, Went, pull, pull_to, pull_winner, pull_split, after_pull}
 use Rattle.hop_machine.specs.settling.Settling.{pulls_left, split_after}
 use Rattle.hop_machine.proofs.step.Programs.{Runs-and_then}
 use Rattle.hop_machine.proofs.play.Going.{pulls}

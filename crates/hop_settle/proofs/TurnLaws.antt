@@ -1,5 +1,5 @@
 -- A turn of an actor that stands in a list of the code.
-use Rattle.std.proofs.Common.{◌≡◌, ℕ, ◌<◌, Bool, false, List, length, map, refl, sym, ap, ◌∙◌, subst, ⊎_elim, Some, slice_set, get_or, slice_get}
+use Rattle.std.proofs.Common.{◌≡◌, ℕ, ◌<◌, Bool, false, List, length, map, sym, ap, ◌∙◌, subst, ⊎_elim, Some, slice_set, get_or, slice_get}
 use Rattle.std.proofs.lemmas.List.{map-set}
 use Rattle.std.proofs.lemmas.Option.{slice_get-get_or}
 use Rattle.std.proofs.Math.Seq.{map-set_same}
@@ -11,7 +11,7 @@ use Rattle.hop_machine.proofs.step.Owners.{Runs-ends}
 use Rattle.hop_machine.proofs.settling.Passes.{get_set}
 use Rattle.hop_actors.specs.declared.turn.Turn.{Turn}
 use Rattle.hop_actors.specs.declared.turn.Turn.TheVariants as answer
-use Rattle.hop_actors.specs.Acting.{Acting, Maps, Reduces, Turned, MayTurn}
+use Rattle.hop_actors.specs.Acting.{Acting, Maps, Reduces, Turned}
 use Rattle.hop_actors.specs.Counting.{Counts, StoreCause, TurnCause}
 use Rattle.hop_settle.specs.Crews.{AreWell, Mapped, Reduced}
 use Rattle.hop_settle.specs.Stops.{MapCounts}

@@ -1,9 +1,9 @@
 -- A turn of the writer, at the end of settling.
-use Rattle.std.proofs.Common.{◌≡◌, ℕ, ◌+◌, ◌<◌, Bool, true, false, List, refl, sym, ap, ◌∙◌, subst, cond, Ok, Err, Result}
+use Rattle.std.proofs.Common.{◌≡◌, Bool, false, List, refl, sym, ap, ◌∙◌, subst, cond, Ok, Err, Result}
 use Rattle.hop_machine.specs.declared.words.Turn.{Turn}
 use Rattle.hop_machine.specs.declared.words.Turn.TheVariants as said
 use Rattle.hop_machine.specs.declared.words.Who.TheVariants as whose
-use Rattle.hop_machine.specs.step.Steps.{Deeds, Setup, Runs}
+use Rattle.hop_machine.specs.step.Steps.{Deeds, Runs}
 use Rattle.hop_machine.specs.actors.MapperTurns.{Mapper}
 use Rattle.hop_machine.specs.actors.ReducerTurns.{Reducer, Writer, writer_turn}
 use Rattle.hop_machine.specs.home.Conditions.{HasWriter}
@@ -13,7 +13,6 @@ use Rattle.hop_machine.specs.home.MapperHome.{has_failed}
 use Rattle.hop_machine.proofs.step.Owners.{Runs-ends, Runs-only}
 use Rattle.hop_machine.proofs.actors.OwnTurns.{own_writer}
 use Rattle.hop_machine.proofs.play.Going.{writer_did, writes}
-use Rattle.hop_machine.proofs.home.Here.{writer_kept}
 use Rattle.hop_actors.specs.declared.turn.Turn.{Turn as Answer}
 use Rattle.hop_actors.specs.declared.turn.Turn.TheVariants as answer
 use Rattle.hop_actors.specs.declared.fault.Fault.{Fault}

@@ -1,7 +1,6 @@
 -- Catching up, row by row.
-use Rattle.std.specs.Prelude.{◌≡◌, ℕ, ◌≤◌, Bool, true, false, List, [], ◌∷◌, Option, Some, None, length, slice_set}
-use Rattle.std.specs.List.{slice_get}
-use Rattle.hop_machine.specs.step.Steps.{Prog, Done, and_then, Deeds, Runs}
+use Rattle.std.specs.Prelude.{◌≡◌, ℕ, Bool, true, false, List, [], ◌∷◌, Option, Some, None}
+use Rattle.hop_machine.specs.step.Steps.{Prog, Done, and_then, Deeds}
 use Rattle.hop_machine.specs.actors.MapperTurns.{Mapper}
 use Rattle.hop_machine.specs.actors.ReducerTurns.{Reducer}
 use Rattle.hop_machine.specs.home.Conditions.{HasReducer}

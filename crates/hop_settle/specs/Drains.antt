@@ -1,5 +1,5 @@
 -- The reducers' turns while a run is settled: after each pass of the mappers, and once more after the last.
-use Rattle.std.specs.Prelude.{◌≡◌, ℕ, List, Bool, length}
+use Rattle.std.specs.Prelude.{ℕ, List, Bool}
 use Rattle.hop_machine.specs.step.Steps.{Deeds}
 use Rattle.hop_machine.specs.play.Play.{Place, Draining, Passing, Emptying, Actors}
 use Rattle.hop_machine.specs.run.AllHome.{IsAtPlace}

@@ -1,9 +1,6 @@
 -- What a reducer may still lack once all mappers have ended: it is pulled from the mappers, and then its history is finished.
-use Rattle.std.specs.Prelude.{◌≡◌, ◌<◌, ◌≤◌, ℕ, true, List, Some, length, slice_index}
-use Rattle.std.specs.List.{slice_get}
+use Rattle.std.specs.Prelude.{◌≡◌, ◌<◌, ℕ, true, List, Some, slice_index}
 use Rattle.hop_event.specs.History.{winner, upto}
-use Rattle.hop_event.specs.Legal.{MayFinish}
-use Rattle.hop_shelf.specs.Finish.{NamesBelow}
 use Rattle.hop_machine.specs.step.Steps.{Deeds}
 use Rattle.hop_machine.specs.step.Setup.{splits_of}
 use Rattle.hop_machine.specs.step.Pushing.{has_restart}

@@ -1,5 +1,5 @@
 -- The turns of a turn list, as a run takes them.
-use Rattle.std.specs.Prelude.{◌≡◌, ℕ, zero, suc, Bool, false, List, [], ◌∷◌, Some, Result, Ok, Err}
+use Rattle.std.specs.Prelude.{◌≡◌, ℕ, zero, suc, Bool, List, [], ◌∷◌, Some, Result, Ok, Err}
 use Rattle.std.specs.List.{slice_get}
 use Rattle.hop_script.specs.declared.turn.Actors.{Actors as Numbers}
 use Rattle.hop_script.specs.declared.turn.Turn.{Turn}

@@ -1,12 +1,12 @@
 -- Pulls by a coordinator: what a reducer lacks is fetched from the mapper that kept it.
-use Rattle.std.specs.Prelude.{◌≡◌, ℕ, Bool, true, false, List, [], ◌∷◌, Option, Some, None, slice_set}
+use Rattle.std.specs.Prelude.{◌≡◌, ℕ, Bool, List, Option, Some, slice_set}
 use Rattle.std.specs.List.{slice_get}
 use Rattle.hop_base.specs.declared.part.Part.{Part}
-use Rattle.hop_machine.specs.step.Steps.{Prog, Done, and_then, Deeds, Runs}
+use Rattle.hop_machine.specs.step.Steps.{Prog, and_then, Deeds, Runs}
 use Rattle.hop_machine.specs.actors.MapperTurns.{Mapper}
 use Rattle.hop_machine.specs.actors.ReducerTurns.{Reducer, take_pull, send_due, restart_if_due}
 use Rattle.hop_machine.specs.home.ReducerHome.{MayPull}
-use Rattle.hop_machine.specs.play.Play.{Row, if_ok, pull, pull_row}
+use Rattle.hop_machine.specs.play.Play.{if_ok, pull}
 use Rattle.hop_actors.specs.Acting.{MayCall}
 use Rattle.hop_actors.specs.Spilled.{MayFetch}
 

@@ -1,14 +1,12 @@
-use Rattle.std.proofs.Common.{rules, ◌≡◌, ℕ, ◌+◌, ◌<◌, ◌≤◌, ◌∙◌, Bool, true, false, List, map, length, nat_lt, arith, refl, sym, ap, subst, Err}
+use Rattle.std.proofs.Common.{rules, ◌≡◌, ℕ, ◌+◌, ◌∙◌, map, length, arith, refl, ap, subst, Err}
 use Rattle.std.proofs.lemmas.List.{length-map}
-use Rattle.hop_machine.specs.actors.MapperTurns.{Mapper}
-use Rattle.hop_machine.specs.actors.ReducerTurns.{Reducer, Writer}
 use Rattle.hop_machine.specs.play.Play.{Place, Went}
 use Rattle.hop_machine.proofs.play.Plays.{went_self, went_both}
 use Rattle.hop_machine.proofs.home.Here.{all_kept}
 use Rattle.hop_machine.proofs.settling.Drains.{drained-start}
 use Rattle.hop_actors.specs.declared.fault.Fault.{Fault}
-use Rattle.hop_settle.specs.Crews.{world_of, actors_of}
-use Rattle.hop_settle.specs.Drains.{Stage, drains_at, after_drains}
+use Rattle.hop_settle.specs.Crews.{world_of}
+use Rattle.hop_settle.specs.Drains.{drains_at, after_drains}
 use Rattle.hop_settle.specs.Stops.{place_after}
 use Rattle.hop_settle.proofs.DrainLaws.{home_here, drains_done, fault_place}
 use Rattle.hop_settle.proofs.drains.drain_all.Goals as goal

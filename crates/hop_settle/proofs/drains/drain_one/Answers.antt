@@ -1,22 +1,15 @@
-use Rattle.std.proofs.Common.{rules, ◌≡◌, ℕ, ◌+◌, ◌<◌, ◌⊎◌, ◌∙◌, Bool, true, false, List, map, length, arith, refl, sym, ap, subst, cond, ⊎_elim, inl, inr, Ok, Err}
+use Rattle.std.proofs.Common.{rules, ◌≡◌, ◌+◌, ◌<◌, ◌∙◌, Bool, map, length, arith, refl, sym, subst, cond, Err}
 use Rattle.std.proofs.lemmas.List.{length-map}
-use Rattle.hop_machine.specs.declared.words.Turn.{Turn}
-use Rattle.hop_machine.specs.declared.words.Turn.TheVariants as said
-use Rattle.hop_machine.specs.step.Steps.{Deeds, Setup, rules_of}
-use Rattle.hop_machine.specs.actors.MapperTurns.{Mapper}
-use Rattle.hop_machine.specs.actors.ReducerTurns.{Reducer, Writer}
-use Rattle.hop_machine.specs.home.Conditions.{HasAll}
-use Rattle.hop_machine.specs.play.Play.{World, Place, Went, Halted, once_idle}
-use Rattle.hop_machine.specs.run.AllHome.{IsAtPlace}
+use Rattle.hop_machine.specs.step.Steps.{Setup, rules_of}
+use Rattle.hop_machine.specs.play.Play.{Place, Went}
 use Rattle.hop_machine.specs.settling.Settling.{most_messages, BoundsLists, drain_left}
 use Rattle.hop_machine.proofs.settling.ListBounds.{bounds-lists}
 use Rattle.hop_machine.proofs.play.Plays.{went_self, went_both}
-use Rattle.hop_machine.proofs.run.Places.{went_at_home}
 use Rattle.hop_machine.proofs.home.Here.{all_kept}
 use Rattle.hop_actors.specs.Acting.{said_turn}
 use Rattle.hop_actors.specs.declared.fault.Fault.{Fault}
-use Rattle.hop_settle.specs.Crews.{world_of, actors_of, Reduced}
-use Rattle.hop_settle.specs.Drains.{Stage, drains_at}
+use Rattle.hop_settle.specs.Crews.{world_of, actors_of}
+use Rattle.hop_settle.specs.Drains.{drains_at}
 use Rattle.hop_settle.specs.Stops.{place_after}
 use Rattle.hop_settle.proofs.Lists.{map-at}
 use Rattle.hop_settle.proofs.DrainLaws.{may_reduce, idle_is, fault_is, halts, goes_on, smaller, still_here, home_here, ready_so, red_ends, red_setup, red_count, red_goes, red_falls, red_drained}

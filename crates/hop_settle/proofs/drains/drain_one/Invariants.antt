@@ -1,4 +1,4 @@
-use Rattle.std.proofs.Common.{◌≡◌, ℕ, ◌+◌, Bool, true, List, length, map, cond}
+use Rattle.std.proofs.Common.{◌≡◌, ◌+◌, true, List, length, map, cond}
 use Rattle.hop_machine.specs.step.Steps.{Deeds, rules_of}
 use Rattle.hop_machine.specs.actors.MapperTurns.{Mapper}
 use Rattle.hop_machine.specs.actors.ReducerTurns.{Writer}

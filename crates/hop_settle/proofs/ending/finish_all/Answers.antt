@@ -1,4 +1,4 @@
-use Rattle.std.proofs.Common.{rules, ◌≡◌, ◌∙◌, List, map, length, sym, ap, arith}
+use Rattle.std.proofs.Common.{rules, ◌≡◌, ◌∙◌, map, length, sym, ap}
 use Rattle.hop_machine.specs.step.Steps.{Setup}
 use Rattle.hop_settle.specs.Crews.{actors_of}
 use Rattle.hop_settle.proofs.BegunLaws.{counted-begun}

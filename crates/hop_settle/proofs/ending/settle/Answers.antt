@@ -1,16 +1,12 @@
-use Rattle.std.proofs.Common.{rules, ◌≡◌, ℕ, ◌+◌, ◌<◌, ◌≤◌, ◌∙◌, Bool, true, false, List, [], map, length, nat_lt, arith, refl, sym, ap, subst, inl, inr, Err}
+use Rattle.std.proofs.Common.{rules, ◌≡◌, ◌<◌, ◌∙◌, [], map, length, arith, sym, ap, subst, Err}
 use Rattle.std.proofs.lemmas.List.{length-map}
-use Rattle.hop_machine.specs.step.Steps.{Deeds, Setup, Ends}
-use Rattle.hop_machine.specs.actors.MapperTurns.{Mapper}
-use Rattle.hop_machine.specs.actors.ReducerTurns.{Reducer, Writer}
-use Rattle.hop_machine.specs.home.Conditions.{HasReducer, HasWriter}
+use Rattle.hop_machine.specs.step.Steps.{Setup, Ends}
 use Rattle.hop_machine.specs.play.Play.{World, Place, Listed, Emptying, Pulling, Writing, Over, Went}
-use Rattle.hop_machine.specs.run.AllHome.{Pulls, Settled, RanToItsEnd}
 use Rattle.hop_machine.proofs.play.Plays.{went_both, went_same}
 use Rattle.hop_machine.proofs.run.Ending.{went_pulling}
-use Rattle.hop_machine.proofs.home.Here.{reducer_kept, writer_kept}
+use Rattle.hop_machine.proofs.home.Here.{reducer_kept}
 use Rattle.hop_actors.specs.declared.fault.Fault.{Fault}
-use Rattle.hop_settle.specs.Crews.{world_of, actors_of, AreWell, IsSized}
+use Rattle.hop_settle.specs.Crews.{world_of, AreWell, IsSized}
 use Rattle.hop_settle.specs.Stops.{place_after}
 use Rattle.hop_settle.proofs.DrainLaws.{fault_place, not_below}
 use Rattle.hop_settle.proofs.EndLaws.{told-went, begins-pulls, worked-went, ran-whole}

@@ -1,16 +1,12 @@
-use Rattle.std.proofs.Common.{rules, ◌≡◌, ℕ, ◌+◌, ◌<◌, ◌≤◌, ◌∙◌, Bool, true, false, List, [], map, length, arith, refl, sym, ap, subst, Err}
-use Rattle.std.proofs.lemmas.List.{length-map}
-use Rattle.hop_machine.specs.step.Steps.{Deeds, Setup, Ends}
-use Rattle.hop_machine.specs.actors.MapperTurns.{Mapper}
-use Rattle.hop_machine.specs.actors.ReducerTurns.{Reducer, Writer}
+use Rattle.std.proofs.Common.{rules, ◌≡◌, ℕ, ◌∙◌, List, [], map, length, arith, sym, ap, subst, Err}
+use Rattle.hop_machine.specs.step.Steps.{Setup, Ends}
 use Rattle.hop_machine.specs.play.Play.{World, Place, Listed, Passing, Emptying, Went}
-use Rattle.hop_machine.specs.run.AllHome.{IsAtPlace}
 use Rattle.hop_machine.proofs.play.Plays.{went_both, went_same}
 use Rattle.hop_machine.proofs.run.Places.{went_at_home}
 use Rattle.hop_machine.proofs.home.Here.{all_kept}
 use Rattle.hop_actors.specs.declared.fault.Fault.{Fault}
 use Rattle.hop_settle.specs.Crews.{world_of, actors_of, flags_of, AreWell}
-use Rattle.hop_settle.specs.Drains.{AtLast, drains_at}
+use Rattle.hop_settle.specs.Drains.{AtLast}
 use Rattle.hop_settle.specs.Stops.{place_after}
 use Rattle.hop_settle.proofs.DrainLaws.{fault_place}
 use Rattle.hop_settle.proofs.EndLaws.{late-went, told-went, still-met, same-board}

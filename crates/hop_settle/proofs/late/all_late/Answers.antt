@@ -1,4 +1,4 @@
-use Rattle.std.proofs.Common.{◌≡◌, ℕ, ◌+◌, ◌<◌, ◌∙◌, List, map, length, arith, sym, ap, Option, Some, slice_set}
+use Rattle.std.proofs.Common.{◌≡◌, ◌<◌, ◌∙◌, List, map, length, arith, sym, ap, Some, slice_set}
 use Rattle.std.specs.List.{slice_get}
 use Rattle.std.proofs.lemmas.List.{length-map, length-set, map-set}
 use Rattle.hop_machine.specs.actors.ReducerTurns.{Reducer}

@@ -1,5 +1,5 @@
-use Rattle.std.proofs.Common.{◌≡◌, ℕ, ◌+◌, ◌<◌, ◌≤◌, ◌∙◌, refl, sym, ap, subst, ⊎_elim, arith}
-use Rattle.hop_machine.specs.step.Steps.{Deeds, Setup}
+use Rattle.std.proofs.Common.{◌≡◌, ◌<◌, ◌≤◌, ◌∙◌, refl, sym, ap, subst, ⊎_elim, arith}
+use Rattle.hop_machine.specs.step.Steps.{Setup}
 use Rattle.hop_machine.specs.home.Said.{Met}
 use Rattle.hop_machine.proofs.play.Plays.{learns_self, learns_both}
 use Rattle.hop_machine.proofs.ending.Winners.{less_or_not}

@@ -1,5 +1,5 @@
-use Rattle.std.proofs.Common.{◌≡◌, ℕ, ◌+◌, ◌<◌, ◌≤◌, ◌∙◌, true, refl, sym, ap, subst, ⊎_elim, arith}
-use Rattle.hop_machine.specs.step.Steps.{Deeds, Ends, Setup, OutEnd, InEnd}
+use Rattle.std.proofs.Common.{◌≡◌, ◌<◌, ◌≤◌, ◌∙◌, refl, sym, ap, subst, ⊎_elim, arith}
+use Rattle.hop_machine.specs.step.Steps.{Ends, OutEnd, InEnd}
 use Rattle.hop_machine.specs.home.Said.{Met}
 use Rattle.hop_machine.specs.settling.Meeting.{Meets}
 use Rattle.hop_machine.proofs.play.Plays.{learns_self, learns_both}

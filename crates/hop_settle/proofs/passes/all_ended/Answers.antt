@@ -1,4 +1,4 @@
-use Rattle.std.proofs.Common.{◌≡◌, ℕ, ◌<◌, ◌≤◌, ◌∙◌, true, false, map, length, arith, sym, subst, ⊎_elim}
+use Rattle.std.proofs.Common.{◌≡◌, ◌<◌, ◌≤◌, ◌∙◌, true, map, length, arith, sym, subst, ⊎_elim}
 use Rattle.std.proofs.lemmas.List.{length-map}
 use Rattle.hop_machine.specs.settling.Settling.{flag_at}
 use Rattle.hop_machine.specs.play.Play.{has_ended}

@@ -1,16 +1,13 @@
-use Rattle.std.proofs.Common.{rules, ◌≡◌, ℕ, ◌+◌, ◌^◌, ◌<◌, ◌≤◌, ◌∙◌, Bool, true, false, List, map, length, nat_lt, arith, refl, sym, ap, subst, Err}
+use Rattle.std.proofs.Common.{rules, ◌≡◌, ◌+◌, ◌^◌, ◌<◌, ◌∙◌, map, length, arith, refl, ap, subst, Err}
 use Rattle.std.proofs.lemmas.List.{length-map}
-use Rattle.hop_machine.specs.actors.MapperTurns.{Mapper}
-use Rattle.hop_machine.specs.actors.ReducerTurns.{Reducer, Writer}
 use Rattle.hop_machine.specs.play.Play.{Place, Went, Mapping, Draining}
-use Rattle.hop_machine.specs.settling.Settling.{PassFell}
 use Rattle.hop_machine.proofs.play.Plays.{went_self, went_both, went_same}
 use Rattle.hop_machine.proofs.play.Going.{maps-over}
 use Rattle.hop_machine.proofs.run.Places.{went_at_home}
 use Rattle.hop_machine.proofs.home.Here.{all_kept}
 use Rattle.hop_machine.proofs.settling.Passes.{pass-start}
 use Rattle.hop_actors.specs.declared.fault.Fault.{Fault}
-use Rattle.hop_settle.specs.Crews.{world_of, actors_of, flags_of, TurnsFrom, TurnsBelow}
+use Rattle.hop_settle.specs.Crews.{world_of, flags_of}
 use Rattle.hop_settle.specs.Stops.{place_after}
 use Rattle.hop_settle.proofs.DrainLaws.{fault_place, not_below}
 use Rattle.hop_settle.proofs.PassLaws.{turns_begin, turns_end}

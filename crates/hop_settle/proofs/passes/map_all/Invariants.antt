@@ -1,4 +1,4 @@
-use Rattle.std.proofs.Common.{◌≡◌, ℕ, ◌^◌, List, length, map}
+use Rattle.std.proofs.Common.{◌≡◌, ℕ, List, length, map}
 use Rattle.hop_machine.specs.actors.ReducerTurns.{Reducer, Writer}
 use Rattle.hop_machine.specs.play.Play.{Went, Mapping}
 use Rattle.hop_machine.specs.settling.Settling.{PassFell}

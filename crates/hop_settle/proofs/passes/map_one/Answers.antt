@@ -1,11 +1,8 @@
-use Rattle.std.proofs.Common.{◌≡◌, ℕ, ◌+◌, ◌<◌, ◌⊎◌, ◌∙◌, Bool, true, false, List, map, length, arith, refl, sym, ap, subst, ⊎_elim, OnOk, Result, slice_index_or}
+use Rattle.std.proofs.Common.{◌+◌, ◌<◌, ◌∙◌, List, map, length, arith, sym, ap, subst, OnOk, Result}
 use Rattle.std.proofs.lemmas.List.{length-map}
-use Rattle.hop_machine.specs.declared.words.Turn.{Turn}
-use Rattle.hop_machine.specs.declared.words.Turn.TheVariants as said
 use Rattle.hop_machine.specs.step.Steps.{Deeds}
 use Rattle.hop_machine.specs.actors.MapperTurns.{Mapper}
-use Rattle.hop_machine.specs.home.MapperHome.{has_failed}
-use Rattle.hop_machine.specs.play.Play.{World, Place, Mapping, Went}
+use Rattle.hop_machine.specs.play.Play.{Place, Mapping, Went}
 use Rattle.hop_machine.specs.settling.Settling.{PassFell}
 use Rattle.hop_machine.proofs.play.Going.{skips}
 use Rattle.hop_machine.proofs.settling.Passes.{pass-skip}

@@ -1,10 +1,9 @@
-use Rattle.std.proofs.Common.{◌≡◌, ℕ, ◌+◌, ◌<◌, ◌≤◌, ◌∙◌, Bool, true, false, List, map, length, nat_lt, arith, refl, sym, ap, subst, slice_set}
+use Rattle.std.proofs.Common.{◌+◌, ◌<◌, ◌∙◌, true, false, List, map, arith, sym, ap, subst, slice_set}
 use Rattle.std.proofs.lemmas.List.{length-map, map-set}
 use Rattle.hop_machine.specs.step.Setup.{splits_of}
-use Rattle.hop_machine.specs.actors.MapperTurns.{Mapper}
-use Rattle.hop_machine.specs.actors.ReducerTurns.{Reducer, Writer}
+use Rattle.hop_machine.specs.actors.ReducerTurns.{Reducer}
 use Rattle.hop_machine.specs.home.Conditions.{HasReducer}
-use Rattle.hop_machine.specs.play.Play.{World, Place, Pulling, Halted, Went}
+use Rattle.hop_machine.specs.play.Play.{World, Pulling, Halted, Went}
 use Rattle.hop_settle.specs.Crews.{actors_of, world_of}
 use Rattle.hop_settle.proofs.Lists.{map-at}
 use Rattle.hop_settle.proofs.TurnLaws.{stands_at}

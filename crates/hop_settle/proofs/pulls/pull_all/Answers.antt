@@ -1,8 +1,6 @@
-use Rattle.std.proofs.Common.{rules, ◌≡◌, ℕ, ◌+◌, ◌<◌, ◌≤◌, ◌∙◌, Bool, true, false, List, map, length, arith, refl, sym, ap, subst, Some, Err}
-use Rattle.hop_machine.specs.step.Steps.{Deeds, Setup}
-use Rattle.hop_machine.specs.actors.MapperTurns.{Mapper}
-use Rattle.hop_machine.specs.actors.ReducerTurns.{Reducer, Writer}
-use Rattle.hop_machine.specs.play.Play.{World, Place, Pulling, Went, after_pull, Halted}
+use Rattle.std.proofs.Common.{rules, ◌≡◌, ℕ, ◌<◌, ◌∙◌, map, length, arith, refl, sym, ap, subst, Err}
+use Rattle.hop_machine.specs.step.Steps.{Setup}
+use Rattle.hop_machine.specs.play.Play.{World, Place, Pulling, Went, after_pull}
 use Rattle.hop_machine.specs.settling.Settling.{split_after}
 use Rattle.hop_machine.proofs.play.Plays.{went_self, went_both, went_same}
 use Rattle.hop_machine.proofs.run.Ending.{went_pulling}

@@ -1,4 +1,4 @@
-use Rattle.std.proofs.Common.{◌≡◌, ℕ, ◌≤◌, length, map}
+use Rattle.std.proofs.Common.{◌≡◌, ◌≤◌, length, map}
 use Rattle.hop_machine.specs.actors.ReducerTurns.{Writer}
 use Rattle.hop_machine.specs.play.Play.{Went, Pulling}
 use Rattle.hop_machine.specs.settling.Settling.{pulls_left}

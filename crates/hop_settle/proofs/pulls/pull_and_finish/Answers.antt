@@ -1,9 +1,8 @@
-use Rattle.std.proofs.Common.{rules, ◌≡◌, ℕ, ◌+◌, ◌<◌, ◌≤◌, ◌∙◌, Bool, true, false, List, [], map, length, nat_lt, arith, refl, sym, ap, subst, Err}
+use Rattle.std.proofs.Common.{rules, ◌≡◌, ℕ, ◌+◌, ◌<◌, ◌∙◌, List, [], map, length, arith, refl, sym, ap, subst, Err}
 use Rattle.std.proofs.lemmas.List.{length-map}
-use Rattle.hop_machine.specs.step.Steps.{Deeds, Setup, Ends}
+use Rattle.hop_machine.specs.step.Steps.{Setup, Ends}
 use Rattle.hop_machine.specs.step.Setup.{splits_of}
 use Rattle.hop_machine.specs.actors.MapperTurns.{Mapper}
-use Rattle.hop_machine.specs.actors.ReducerTurns.{Reducer, Writer}
 use Rattle.hop_machine.specs.play.Play.{World, Place, Pulling, Writing, Went}
 use Rattle.hop_machine.proofs.play.Plays.{went_self, went_both, went_same}
 use Rattle.hop_machine.proofs.play.Going.{pulls-over}

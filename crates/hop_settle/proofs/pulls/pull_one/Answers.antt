@@ -1,13 +1,10 @@
-use Rattle.std.proofs.Common.{◌≡◌, ℕ, ◌+◌, ◌<◌, ◌≤◌, ◌∙◌, Bool, true, false, List, map, length, arith, refl, sym, ap, subst, Option, Some, None, slice_set, IfOk, Result, Ok, Err}
-use Rattle.std.specs.List.{slice_get}
+use Rattle.std.proofs.Common.{◌<◌, List, map, arith, sym, subst}
 use Rattle.std.proofs.lemmas.List.{length-map, map-set}
-use Rattle.hop_machine.specs.step.Steps.{Deeds, Setup, Runs}
 use Rattle.hop_machine.specs.actors.MapperTurns.{Mapper}
-use Rattle.hop_machine.specs.actors.ReducerTurns.{Reducer, Writer}
-use Rattle.hop_machine.specs.play.Play.{World, Pulling, Went, pull_split, after_pull}
+use Rattle.hop_machine.specs.actors.ReducerTurns.{Reducer}
+use Rattle.hop_machine.specs.play.Play.{Pulling, Went, after_pull}
 use Rattle.hop_machine.specs.settling.Settling.{pulls_left, split_after}
 use Rattle.hop_machine.proofs.play.Plays.{went_same}
-use Rattle.hop_actors.specs.declared.fault.Fault.{Fault}
 use Rattle.hop_actors.specs.Calls.{found}
 use Rattle.hop_settle.specs.Crews.{actors_of, world_of}
 use Rattle.hop_settle.proofs.Lists.{map-at}

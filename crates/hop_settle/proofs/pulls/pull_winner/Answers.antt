@@ -1,10 +1,10 @@
-use Rattle.std.proofs.Common.{◌≡◌, ℕ, ◌<◌, ◌≤◌, ◌∙◌, Bool, false, List, map, arith, refl, sym, ap, subst, Option, Some, slice_index}
-use Rattle.hop_machine.specs.step.Steps.{Deeds, Setup, Runs}
+use Rattle.std.proofs.Common.{◌≡◌, ℕ, ◌<◌, ◌∙◌, Bool, List, map, arith, sym, ap, subst, Option, slice_index}
+use Rattle.hop_machine.specs.step.Steps.{Setup, Runs}
 use Rattle.hop_machine.specs.actors.ReducerTurns.{Reducer, reads_winner, reads_upto}
 use Rattle.hop_actors.specs.Acting.{MayCall}
 use Rattle.hop_actors.specs.Calls.{found}
 use Rattle.hop_settle.specs.Pulled.{MayPullAt}
-use Rattle.hop_settle.proofs.SplitLaws.{none-lacks, rest-pulled, board_kept, may-upto, may-pull, read-homes, read-setup, is-kept-to}
+use Rattle.hop_settle.proofs.SplitLaws.{none-lacks, rest-pulled, board_kept, may-upto, may-pull, read-homes, read-setup}
 use Rattle.hop_settle.proofs.pulls.pull_winner.Goals as goal
 
 pub returns-in_default-clause-well : goal.returns-in_default-clause-well

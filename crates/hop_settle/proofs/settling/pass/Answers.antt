@@ -1,10 +1,7 @@
-use Rattle.std.proofs.Common.{rules, ◌≡◌, ℕ, ◌+◌, ◌<◌, ◌≤◌, ◌∙◌, Bool, true, false, List, map, length, arith, refl, sym, ap, subst, Err}
+use Rattle.std.proofs.Common.{rules, ◌≡◌, ℕ, ◌∙◌, map, length, arith, refl, sym, ap, subst, Err}
 use Rattle.std.proofs.lemmas.List.{length-map}
-use Rattle.hop_machine.specs.step.Steps.{Deeds, Setup, Ends}
-use Rattle.hop_machine.specs.actors.MapperTurns.{Mapper}
-use Rattle.hop_machine.specs.actors.ReducerTurns.{Reducer, Writer}
-use Rattle.hop_machine.specs.play.Play.{World, Place, Mapping, Draining, Passing, Went, has_ended}
-use Rattle.hop_machine.specs.run.AllHome.{IsAtPlace}
+use Rattle.hop_machine.specs.step.Steps.{Setup, Ends}
+use Rattle.hop_machine.specs.play.Play.{Place, Mapping, Draining, Passing, Went, has_ended}
 use Rattle.hop_machine.specs.settling.Settling.{Drained, PassFell}
 use Rattle.hop_machine.proofs.play.Plays.{went_both, went_learns, went_same}
 use Rattle.hop_machine.proofs.run.Places.{went_at_home}
@@ -12,8 +9,8 @@ use Rattle.hop_machine.proofs.home.Here.{all_kept}
 use Rattle.hop_machine.proofs.settling.Drains.{drained-start, drained-room, drained-left}
 use Rattle.hop_machine.proofs.settling.Passes.{pass-less}
 use Rattle.hop_actors.specs.declared.fault.Fault.{Fault}
-use Rattle.hop_settle.specs.Crews.{world_of, actors_of, flags_of, AreWell}
-use Rattle.hop_settle.specs.Drains.{AfterPass, drains_at, after_drains}
+use Rattle.hop_settle.specs.Crews.{world_of, flags_of, AreWell}
+use Rattle.hop_settle.specs.Drains.{AfterPass, after_drains}
 use Rattle.hop_settle.specs.Stops.{place_after}
 use Rattle.hop_settle.proofs.DrainLaws.{fault_place}
 use Rattle.hop_settle.proofs.settling.pass.Goals as goal

@@ -1,8 +1,5 @@
-use Rattle.std.proofs.Common.{rules, ◌≡◌, ℕ, ◌+◌, ◌<◌, ◌≤◌, ◌∙◌, ◌^◌, Bool, true, false, List, map, length, arith, refl, sym, ap, subst, Err, cond}
-use Rattle.std.proofs.lemmas.List.{length-map}
-use Rattle.hop_machine.specs.step.Steps.{Deeds, Setup, Ends}
-use Rattle.hop_machine.specs.actors.MapperTurns.{Mapper}
-use Rattle.hop_machine.specs.actors.ReducerTurns.{Reducer, Writer}
+use Rattle.std.proofs.Common.{rules, ◌≡◌, ◌+◌, ◌∙◌, false, map, arith, refl, sym, ap, subst, Err}
+use Rattle.hop_machine.specs.step.Steps.{Setup}
 use Rattle.hop_machine.specs.play.Play.{World, Place, Mapping, Passing, Emptying, Went, all_true}
 use Rattle.hop_machine.specs.settling.Settling.{pass_left}
 use Rattle.hop_machine.proofs.play.Plays.{went_self, went_both, went_same}

@@ -1,7 +1,4 @@
-use Rattle.std.proofs.Common.{rules, ◌≡◌, ℕ, ◌+◌, ◌<◌, ◌∙◌, Bool, true, false, List, arith, refl, sym, ap, subst, cond, Err}
-use Rattle.hop_machine.specs.step.Steps.{Deeds, Setup}
-use Rattle.hop_machine.specs.actors.MapperTurns.{Mapper}
-use Rattle.hop_machine.specs.actors.ReducerTurns.{Reducer, Writer}
+use Rattle.std.proofs.Common.{rules, ◌≡◌, ◌<◌, ◌∙◌, Bool, refl, sym, subst, cond, Err}
 use Rattle.hop_machine.specs.play.Play.{World, Place, Writing, Over, Went}
 use Rattle.hop_machine.specs.settling.Settling.{cuts_left}
 use Rattle.hop_machine.proofs.play.Plays.{went_self, went_both, went_same}
@@ -9,10 +6,10 @@ use Rattle.hop_machine.proofs.run.Ending.{went_pulling}
 use Rattle.hop_machine.proofs.home.Here.{writer_kept}
 use Rattle.hop_actors.specs.Acting.{said_turn}
 use Rattle.hop_actors.specs.declared.fault.Fault.{Fault}
-use Rattle.hop_settle.specs.Crews.{world_of, actors_of}
+use Rattle.hop_settle.specs.Crews.{world_of}
 use Rattle.hop_settle.specs.Stops.{place_after}
 use Rattle.hop_settle.proofs.DrainLaws.{idle_is, goes_on, smaller}
-use Rattle.hop_settle.proofs.WriteLaws.{write-halts, write-ends, write-setup, write-went, may-write, still-writes, on_ok, counts_on}
+use Rattle.hop_settle.proofs.WriteLaws.{write-halts, write-ends, write-went, may-write, still-writes, on_ok, counts_on}
 use Rattle.hop_settle.proofs.writing.write_all.Goals as goal
 
 pub loop-idle-init : goal.loop-idle-init

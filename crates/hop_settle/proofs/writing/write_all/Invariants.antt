@@ -1,4 +1,4 @@
-use Rattle.std.proofs.Common.{◌≡◌, ℕ, ◌+◌, false, List, cond}
+use Rattle.std.proofs.Common.{◌≡◌, ◌+◌, false, List, cond}
 use Rattle.hop_machine.specs.actors.MapperTurns.{Mapper}
 use Rattle.hop_machine.specs.actors.ReducerTurns.{Reducer}
 use Rattle.hop_machine.specs.play.Play.{Went, Writing, Over}
