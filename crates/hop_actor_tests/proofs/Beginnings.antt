@@ -1,13 +1,13 @@
 -- A run of the tests as it begins.
-use Rattle.std.proofs.Common.{◌≡◌, ℕ, zero, suc, ◌+◌, ◌<◌, ◌≤◌, arith, Bool, true, false, nat_lt, cond, List, [], ◌∷◌, Some, None, refl, sym, ap, ◌∙◌, subst}
+use Rattle.std.proofs.Common.{◌≡◌, ℕ, zero, suc, ◌<◌, arith, Bool, true, false, nat_lt, cond, List, [], ◌∷◌, Some, None, refl, sym, ap, ◌∙◌, subst}
 use Rattle.std.specs.List.{slice_get}
 use Rattle.hop_event.specs.Coverage.{first_reached}
 use Rattle.hop_ports.specs.Clean.{nothing_held}
 use Rattle.hop_ports.specs.Memory.{memory_view}
 use Rattle.hop_ports.specs.declared.memory.MemFolder.{MemFolder}
-use Rattle.hop_machine.specs.step.Steps.{Setup, Value, Deeds}
+use Rattle.hop_machine.specs.step.Steps.{Setup, Deeds}
 use Rattle.hop_machine.specs.actors.ReducerTurns.{marks_due}
-use Rattle.hop_machine.specs.play.FirstState.{new_shared, nothing_under_lock}
+use Rattle.hop_machine.specs.play.FirstState.{nothing_under_lock}
 use Rattle.hop_machine.specs.run.AllHome.{new_deeds, AllNoneDue}
 use Rattle.hop_start.specs.Given.{IsSpillFolder, AreSpillFolders}
 use Rattle.hop_actor_tests.specs.Runs.{no_files}

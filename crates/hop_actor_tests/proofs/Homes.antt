@@ -1,13 +1,12 @@
 -- The actors of a run of the tests, from turn to turn.
-use Rattle.std.proofs.Common.{◌≡◌, ℕ, ◌+◌, ◌<◌, arith, Bool, true, false, List, [], ◌∷◌, length, map, Some, refl, sym, ap, ◌∙◌, subst}
-use Rattle.std.specs.List.{slice_get}
+use Rattle.std.proofs.Common.{◌≡◌, ℕ, ◌+◌, arith, Bool, true, false, List, [], ◌∷◌, map, refl, sym, ap, subst}
 use Rattle.hop_machine.specs.declared.words.Turn.{Turn}
 use Rattle.hop_machine.specs.declared.words.Turn.TheVariants as said
 use Rattle.hop_machine.specs.declared.words.Who.{Who}
 use Rattle.hop_machine.specs.declared.words.Who.TheVariants as whose
 use Rattle.hop_machine.specs.step.Steps.{Setup, Deeds, Ends}
 use Rattle.hop_machine.specs.actors.MapperTurns.{Mapper}
-use Rattle.hop_machine.specs.actors.ReducerTurns.{Reducer, Writer}
+use Rattle.hop_machine.specs.actors.ReducerTurns.{Reducer}
 use Rattle.hop_machine.specs.home.MapperHome.{has_failed}
 use Rattle.hop_machine.specs.home.Starts.{new_writer}
 use Rattle.hop_machine.specs.play.Play.{World, Place, Listed, TurnOf, Turned, unless_spent}
@@ -15,7 +14,7 @@ use Rattle.hop_machine.specs.run.AllHome.{IsAtPlace, Ready}
 use Rattle.hop_machine.proofs.home.Here.{all_kept}
 use Rattle.hop_machine.proofs.play.Going.{listed-turn}
 use Rattle.hop_machine.proofs.run.Places.{went_at_home}
-use Rattle.hop_settle.specs.Crews.{actors_of, world_of, AreWell, TurnsBelow, Mapped, Reduced}
+use Rattle.hop_settle.specs.Crews.{world_of, AreWell, Mapped, Reduced}
 use Rattle.hop_settle.proofs.PassLaws.{map_ends, map_turned, map_turns}
 use Rattle.hop_settle.proofs.DrainLaws.{red_ends, red_turned}
 use Rattle.hop_actor_tests.specs.Benches.{AtHome}

@@ -1,5 +1,5 @@
 -- Runs of the tests, by what they are given.
-use Rattle.std.specs.Prelude.{ℕ, Bool, true, List, [], ◌∷◌, Some, codes, Option}
+use Rattle.std.specs.Prelude.{ℕ, true, List, [], ◌∷◌, Some, codes, Option}
 use Rattle.std.specs.FinMap as map
 use Rattle.hop_base.specs.Files.{Files}
 use Rattle.hop_base.specs.Run.{ScriptLines, RunSettings, least_settings}

@@ -1,6 +1,5 @@
-use Rattle.std.proofs.Common.{◌≡◌, ◌≤◌, ℕ, List, arith, sym, ap, ◌∙◌, subst}
+use Rattle.std.proofs.Common.{◌≡◌, arith, sym, ap, ◌∙◌, subst}
 use Rattle.std.specs.Prelude.{All}
-use Rattle.hop_base.specs.Meaning.{Meaning}
 use Rattle.hop_base.specs.Run.{RunSettings}
 use Rattle.hop_laws.specs.Laws.{IsLawful}
 use Rattle.hop_records.specs.Records.{BookValue, IsShort}

@@ -1,7 +1,5 @@
-use Rattle.std.proofs.Common.{◌≡◌, ◌<◌, ℕ, false, length, get_or, arith, Some, subst}
-use Rattle.std.specs.List.{slice_get}
+use Rattle.std.proofs.Common.{◌≡◌, ◌<◌, ℕ, false, length, get_or, arith, subst}
 use Rattle.std.proofs.lemmas.Option.{slice_get-get_or}
-use Rattle.hop_machine.specs.step.Steps.{Deeds}
 use Rattle.hop_machine.specs.home.Starts.{new_reducer}
 use Rattle.hop_inner.specs.Setups.{setup_of}
 use Rattle.hop_crew.specs.PlainWorlds.{deeds_of}

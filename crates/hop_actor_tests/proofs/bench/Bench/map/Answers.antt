@@ -1,4 +1,4 @@
-use Rattle.std.proofs.Common.{◌≡◌, ◌<◌, ◌+◌, ◌^◌, length, map, arith, refl, sym, ◌∙◌}
+use Rattle.std.proofs.Common.{map, arith, refl, sym, ◌∙◌}
 use Rattle.std.proofs.lemmas.List.{length-map}
 use Rattle.hop_machine.specs.home.Starts.{new_writer}
 use Rattle.hop_inner.specs.Setups.{setup_of}

@@ -1,5 +1,4 @@
-use Rattle.std.proofs.Common.{◌≡◌, ◌<◌, ◌+◌, [], map, arith, ap}
-use Rattle.hop_machine.specs.step.Steps.{Deeds}
+use Rattle.std.proofs.Common.{[], map, arith, ap}
 use Rattle.hop_machine.specs.actors.MapperTurns.{Mapper}
 use Rattle.hop_machine.specs.home.Starts.{new_writer}
 use Rattle.hop_inner.specs.Setups.{setup_of}
