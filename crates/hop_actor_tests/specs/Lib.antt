@@ -1,3 +1,5 @@
 pub mod TwoSplits
 pub mod Seats
 pub mod Worlds
+pub mod Benches
+pub mod Runs

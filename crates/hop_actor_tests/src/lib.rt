@@ -2,8 +2,12 @@
 #![tactic(auto)]
 
 #[cfg(test)]
+mod bench;
+#[cfg(test)]
 mod boards;
 #[cfg(test)]
 mod lanes;
+#[cfg(test)]
+mod runs;
 #[cfg(test)]
 mod worlds;

@@ -1,0 +1,35 @@
+-- Runs of the tests, by what they are given.
+use Rattle.std.specs.Prelude.{ℕ, true, List, [], ◌∷◌, Some, codes, Option}
+use Rattle.std.specs.FinMap as map
+use Rattle.hop_base.specs.Files.{Files}
+use Rattle.hop_base.specs.Run.{ScriptLines, RunSettings, least_settings}
+use Rattle.hop_records.specs.Records.{records_of}
+use Rattle.hop_script.specs.Script.{script_of}
+
+-- the folders of two workers, which hold nothing
+abbrev pub no_files : List (Option Files)
+no_files = Some map.empty ∷ Some map.empty ∷ []
+
+-- Six records in splits of two. The first worker is delayed twice. The first attempt of each split fails: at 0, at 1, and past its end, which is at 2.
+abbrev pub failing_records : List (List ℕ)
+failing_records = records_of (codes "a\nb\nc\nd\ne\nf\n")
+
+abbrev pub failing_script : ScriptLines
+failing_script = script_of (codes "delay 0 2\nfail 0 0 0\nfail 1 0 1\nfail 2 0 9\n")
+
+abbrev pub failing_settings : RunSettings
+failing_settings = record least_settings { split = 2; attempts = 2; lane = 64 }
+
+-- One record, two workers, and a backup attempt.
+abbrev pub backed_records : List (List ℕ)
+backed_records = records_of (codes "a\n")
+
+abbrev pub backed_settings : RunSettings
+backed_settings = record least_settings { workers = 2; attempts = 2; lane = 64; backup = true }
+
+-- One split of four records, and lanes of one message.
+abbrev pub narrow_records : List (List ℕ)
+narrow_records = records_of (codes "a\nb\nc\nd\n")
+
+abbrev pub narrow_settings : RunSettings
+narrow_settings = record least_settings { split = 4 }
