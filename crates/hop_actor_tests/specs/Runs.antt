@@ -33,3 +33,16 @@ narrow_records = records_of (codes "a\nb\nc\nd\n")
 
 abbrev pub narrow_settings : RunSettings
 narrow_settings = record least_settings { split = 4 }
+
+-- One split of two records. The reducer restarts after its first arrival, or after its second.
+abbrev pub restarting_records : List (List ℕ)
+restarting_records = records_of (codes "a\nb\n")
+
+abbrev pub first_script : ScriptLines
+first_script = script_of (codes "restart 0 1\n")
+
+abbrev pub second_script : ScriptLines
+second_script = script_of (codes "restart 0 2\n")
+
+abbrev pub restarting_settings : RunSettings
+restarting_settings = record least_settings { split = 2; lane = 64 }

@@ -1,13 +1,14 @@
 //! Turns of mappers and of reducers, one after another.
-ghost use Rattle.std.specs.Prelude.{IfOk};
+ghost use Rattle.std.specs.Prelude.{◌≡◌, IfOk};
 ghost use Rattle.hop_base.specs.Run.{no_lines};
 ghost use Rattle.hop_jobs.specs.Wc.{wc_meaning};
+ghost use Rattle.hop_mapper.specs.Mappers.{settings_of};
 ghost use Rattle.hop_actor_tests.specs.Benches.{IsGiven};
-ghost use Rattle.hop_actor_tests.specs.Runs.{failing_records, failing_script, failing_settings, backed_records, backed_settings, narrow_records, narrow_settings};
+ghost use Rattle.hop_actor_tests.specs.Runs.{failing_records, failing_script, failing_settings, backed_records, backed_settings, narrow_records, narrow_settings, restarting_records, first_script, second_script, restarting_settings};
 
 use crate::bench::{Bench, Given, folders, read_given, settings};
 use hop_actors::Turn;
-use hop_base::{Part, RunName};
+use hop_base::{Part, RunName, Settings};
 use hop_event::{Event, Via};
 use std::alloc::Global;
 use std::test::Fail;
@@ -114,6 +115,52 @@ impl RunName for Narrow {
     ghost spills = { no_files };
 }
 
+// A run whose reducer restarts after its first arrival.
+struct AfterFirst;
+
+impl RunName for AfterFirst {
+    ghost use Rattle.std.specs.Prelude.{true, None};
+    ghost use Rattle.hop_jobs.specs.Wc.{wc_meaning};
+    ghost use Rattle.hop_actor_tests.specs.Runs.{restarting_records, first_script, restarting_settings, no_files};
+
+    ghost job = { wc_meaning };
+
+    ghost records = { restarting_records };
+
+    ghost script = { first_script };
+
+    ghost settings = { restarting_settings };
+
+    ghost tells = { true };
+
+    ghost folder = { None };
+
+    ghost spills = { no_files };
+}
+
+// A run whose reducer restarts after its second arrival.
+struct AfterSecond;
+
+impl RunName for AfterSecond {
+    ghost use Rattle.std.specs.Prelude.{true, None};
+    ghost use Rattle.hop_jobs.specs.Wc.{wc_meaning};
+    ghost use Rattle.hop_actor_tests.specs.Runs.{restarting_records, second_script, restarting_settings, no_files};
+
+    ghost job = { wc_meaning };
+
+    ghost records = { restarting_records };
+
+    ghost script = { second_script };
+
+    ghost settings = { restarting_settings };
+
+    ghost tells = { true };
+
+    ghost folder = { None };
+
+    ghost spills = { no_files };
+}
+
 fn failing_run(alloc: Global) -> Result<Given, Fail>
     ensures { IfOk result (λ g. IsGiven wc_meaning failing_records failing_script failing_settings g.book g.lens g.script g.settings) }
 {
@@ -146,6 +193,15 @@ fn narrow_run(alloc: Global) -> Result<Given, Fail>
     let mut own = settings(alloc);
     own.split = 4;
     read_given::<Narrow>(alloc, b"a\nb\nc\nd\n", b"", own)
+}
+
+fn own_settings(alloc: Global) -> Settings
+    ensures { settings_of result ≡ restarting_settings }
+{
+    let mut own = settings(alloc);
+    own.split = 2;
+    own.lane = 64;
+    own
 }
 
 // A range that came by the lane of worker `w`.
@@ -360,5 +416,56 @@ fn a_failing_folder_stops_the_turn(rt: HostRuntime) -> Result<(), Fail> {
         );
         assert_eq!(rt; bench.kept_and_begun(0, 0, 0), Some((kept, 1)));
     }
+    Ok(())
+}
+
+// The reducer forgets what it had. What goes on where the forgotten records ended is ignored.
+#[test]
+fn a_restart_after_the_first_arrival(rt: HostRuntime) -> Result<(), Fail> {
+    let alloc = rt.alloc();
+    let given = read_given::<AfterFirst>(alloc, b"a\nb\n", b"restart 0 1\n", own_settings(alloc))?;
+    let mut bench = Bench::<AfterFirst>::new(alloc, folders(alloc, 1, Vec::new(alloc))?, &given)?;
+    assert_eq!(rt;
+        take_turns(alloc, &mut bench, b"aaaarrrrr")?.as_slice(),
+        b"wwwwwwwwi".as_slice()
+    );
+    let history = bench.into_history()?;
+    let ignored = Event::Ignore {
+        part: Part {
+            split: 0,
+            attempt: 0,
+            from: 1,
+            to: 2,
+        },
+        via: Via::Lane(0),
+        have: 0,
+    };
+    assert_eq!(rt;
+        history.events(),
+        [arrive(0, 0, 0, 0, 1), Event::Restart, ignored, won(0, 0)].as_slice()
+    );
+    Ok(())
+}
+
+#[test]
+fn a_restart_after_the_last_arrival(rt: HostRuntime) -> Result<(), Fail> {
+    let alloc = rt.alloc();
+    let given = read_given::<AfterSecond>(alloc, b"a\nb\n", b"restart 0 2\n", own_settings(alloc))?;
+    let mut bench = Bench::<AfterSecond>::new(alloc, folders(alloc, 1, Vec::new(alloc))?, &given)?;
+    assert_eq!(rt;
+        take_turns(alloc, &mut bench, b"aaaarrrrr")?.as_slice(),
+        b"wwwwwwwwi".as_slice()
+    );
+    let history = bench.into_history()?;
+    assert_eq!(rt;
+        history.events(),
+        [
+            arrive(0, 0, 0, 0, 1),
+            arrive(0, 0, 0, 1, 2),
+            Event::Restart,
+            won(0, 0)
+        ]
+        .as_slice()
+    );
     Ok(())
 }
