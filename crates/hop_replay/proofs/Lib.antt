@@ -1,1 +1,4 @@
+pub mod Drove
 pub mod GoingOn
+pub mod Stopping
+pub mod Whole

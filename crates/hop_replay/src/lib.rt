@@ -1,8 +1,6 @@
-//! A job that is run on one thread: its actors are made, take the turns of a turn list and are settled, and what they leave is read off them.
+//! A job that is run over exact ends, as on one thread: its actors take the turns of a turn list and are settled, and what they leave is read off them.
 #![tactic(auto)]
 
 pub mod driving;
-pub mod replaying;
 
-pub use driving::RunEnd;
-pub use replaying::replay;
+pub use driving::{RunEnd, run_to_end};
