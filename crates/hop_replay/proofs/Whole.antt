@@ -1,9 +1,9 @@
 -- What is read off a run that came to its end.
-use Rattle.std.proofs.Common.{◌≡◌, ◌⊎◌, inl, inr, ℕ, ◌+◌, ◌≤◌, ◌<◌, ◌==◌, ◌&&◌, Bool, true, false, List, length, map, get_or, Some, slice_index, nat_lt, if◌then◌else◌, refl, sym, ap, ◌∙◌, subst, arith}
+use Rattle.std.proofs.Common.{◌≡◌, ◌⊎◌, inl, inr, ℕ, zero, suc, ◌+◌, ◌≤◌, ◌<◌, ◌==◌, ◌&&◌, Bool, true, false, List, [], ◌∷◌, length, map, get_or, Some, slice_index, nat_lt, if◌then◌else◌, refl, sym, ap, ◌∙◌, subst, arith}
 use Rattle.std.specs.List.{slice_get, range_with_len}
 use Rattle.std.proofs.Math.ListN.{get_or-eq_default}
 use Rattle.std.proofs.lemmas.Bool.Decides.{nat_tests}
-use Rattle.std.proofs.lemmas.Option.{slice_get-get_or}
+use Rattle.std.proofs.lemmas.Option.{slice_get-get_or, same_Some}
 use Rattle.std.proofs.lemmas.List.FromFn.{get_or-map-range_with_len, length-map-range_with_len}
 use Rattle.hop_event.specs.declared.event.Event.{Event}
 use Rattle.hop_event.specs.Legal.{Rules, AllWon}
@@ -89,7 +89,7 @@ module _ (from : Place) (a d : World) (ran : RanToItsEnd true from a d) where
 
     inside : (i n : ℕ) → n < slice_index begun i → (i < length d.deeds.setup.lens) ⊎ (length d.deeds.setup.lens ≤ i) → i < length d.deeds.setup.lens
     inside i n k (inl l) = l
-    inside i n k (inr l) = let c = are.count in let e : slice_index begun i ≡ 0 = get_or-eq_default begun i 0 (omega (arith, c, l)) in absurd (omega (arith, k, e))
+    inside i n k (inr l) = let c = are.count in let e : slice_index begun i ≡ 0 = get_or-eq_default begun 0 (omega (arith, c, l)) in absurd (omega (arith, k, e))
 
     kept-by : (w : ℕ) (m : Mapper) → slice_get d.actors.mappers w ≡ Some m → (i n : ℕ) → (n < slice_index begun i) ⊎ (slice_index begun i ≤ n) → m.kept i n ≡ kept_of (rules_of d.deeds.setup) begun worker-of w i n
     kept-by w m g i n (inl k) =
@@ -101,3 +101,9 @@ module _ (from : Place) (a d : World) (ran : RanToItsEnd true from a d) where
     -- what each vault kept
     pub kept-so : (w : ℕ) (m : Mapper) → slice_get d.actors.mappers w ≡ Some m → (i n : ℕ) → m.kept i n ≡ kept_of (rules_of d.deeds.setup) begun worker-of w i n
     kept-so w m g i n = kept-by w m g i n (less_or_not n (slice_index begun i))
+
+-- where no mapper makes backups, none of a list does
+pub all-alone : {M : Type 0} (k : M → Mapper) (ms : List M) → ((m : M) → (k m).backup ≡ false) → (w : ℕ) (m : Mapper) → slice_get (map k ms) w ≡ Some m → m.backup ≡ false
+all-alone k [] h w m e = cc
+all-alone k (x ∷ xs) h zero m e = sym (ap (λ (m : Mapper). m.backup) (same_Some (k x) m e)) ∙ h x
+all-alone k (x ∷ xs) h (suc w) m e = all-alone k xs h w m e

@@ -72,6 +72,7 @@ fn drive<
     ensures count { length mappers.new.items ≡ length mappers.old.items }
     ensures well { OnOk result (AreWell M.failed M.fits (E.deeds reach.new).ends.board mappers.new.items) }
     ensures counts { OnOk result (map M.counts mappers.new.items ≡ map M.counts mappers.old.items) }
+    ensures put { OnOk result (W.counts writer.new ≡ W.counts writer.old) }
     ensures cause { IfErr result (CrewStops (map M.counts mappers.old.items) (map M.counts mappers.new.items) (W.counts writer.old) (W.counts writer.new)) }
 {
     let _lines = turns.turns();
@@ -163,9 +164,10 @@ pub fn run_to_end<
     ensures spent { IfErr result (λ f. (split : ℕ) → f ≡ fault.SpentAt split → IsSpent (record { job = N.job; records = N.records; script = N.script; settings = N.settings; turns = turns.now }) split) }
     ensures count { length mappers.new.items ≡ length mappers.old.items }
     ensures numbers { OnOk result ((w : ℕ) (m : M) → slice_get mappers.new.items w ≡ Some m → (M.mapper m).number ≡ w) }
-    ensures well { OnOk result (AreWell M.failed M.fits (E.deeds reach.new).ends.board mappers.new.items) }
+    ensures well { OnOk result ((w : ℕ) (m : M) → slice_get mappers.new.items w ≡ Some m → M.failed m ≡ false) }
     ensures spilled { OnOk result ((w : ℕ) (m : M) → slice_get mappers.new.items w ≡ Some m → M.failed m ≡ false → IsSpilled N.job N.records N.settings.split N.settings.reducers N.settings.spill (M.mapper m).rules.lens (M.mapper m).kept (slice_index_or N.spills (M.mapper m).number None) (M.held m)) }
     ensures counts { OnOk result (map M.counts mappers.new.items ≡ map M.counts mappers.old.items) }
+    ensures put { OnOk result (W.counts writer.new ≡ W.counts writer.old) }
     ensures cause { IfErr result (CrewStops (map M.counts mappers.old.items) (map M.counts mappers.new.items) (W.counts writer.old) (W.counts writer.new)) }
 {
     let splits = lens.as_slice().len() as u32;
