@@ -1,5 +1,5 @@
 -- A run that came to its end, in the words of what it was given.
-use Rattle.std.proofs.Common.{◌≡◌, ℕ, ◌<◌, Bool, true, false, IsTrue, List, length, map, Some, slice_index, refl, sym, ap, ◌∙◌, subst}
+use Rattle.std.proofs.Common.{◌≡◌, ℕ, ◌<◌, Bool, true, false, IsTrue, List, length, Some, slice_index, refl, sym, subst}
 use Rattle.std.specs.List.{slice_get}
 use Rattle.hop_event.specs.declared.event.Event.{Event}
 use Rattle.hop_event.specs.Agreement.{history_at}
@@ -9,7 +9,7 @@ use Rattle.hop_machine.specs.step.Steps.{Setup, rules_of}
 use Rattle.hop_machine.specs.step.Pushing.{AllOfWorker}
 use Rattle.hop_machine.specs.actors.MapperTurns.{Mapper}
 use Rattle.hop_machine.specs.home.Said.{history_of}
-use Rattle.hop_machine.specs.play.Play.{Order, Place, World, Opening, Over, NoneLeft, machine}
+use Rattle.hop_machine.specs.play.Play.{Order, World, Opening, Over, NoneLeft, machine}
 use Rattle.hop_machine.specs.play.FirstState.{Plays, IsNew}
 use Rattle.hop_machine.specs.home.ReducerHome.{IsSetup}
 use Rattle.hop_machine.specs.ending.Finishing.{AreBegun, AreHistories, AreSettled}

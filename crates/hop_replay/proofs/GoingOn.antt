@@ -1,5 +1,5 @@
 -- How a run goes on from the turn list to settling, and where a fault ends it.
-use Rattle.std.proofs.Common.{◌≡◌, ℕ, Bool, List, refl, sym, subst, Result, Ok, Err}
+use Rattle.std.proofs.Common.{◌≡◌, Bool, List, subst, Result, Err}
 use Rattle.std.specs.Prelude.{IfErr}
 use Rattle.hop_machine.specs.play.Play.{Place, World, Went, Emptying}
 use Rattle.hop_machine.specs.run.AllHome.{IsAtPlace, RanToItsEnd}

@@ -1,12 +1,12 @@
 -- What is read off a run that came to its end.
-use Rattle.std.proofs.Common.{◌≡◌, ◌⊎◌, inl, inr, ℕ, zero, suc, ◌+◌, ◌≤◌, ◌<◌, ◌==◌, ◌&&◌, Bool, true, false, List, [], ◌∷◌, length, map, get_or, Some, slice_index, nat_lt, if◌then◌else◌, refl, sym, ap, ◌∙◌, subst, arith}
+use Rattle.std.proofs.Common.{◌≡◌, ◌⊎◌, inl, inr, ℕ, zero, suc, ◌≤◌, ◌<◌, ◌==◌, ◌&&◌, Bool, true, false, List, [], ◌∷◌, length, map, get_or, Some, slice_index, nat_lt, if◌then◌else◌, sym, ap, ◌∙◌, subst, arith}
 use Rattle.std.specs.List.{slice_get, range_with_len}
 use Rattle.std.proofs.Math.ListN.{get_or-eq_default}
 use Rattle.std.proofs.lemmas.Bool.Decides.{nat_tests}
 use Rattle.std.proofs.lemmas.Option.{slice_get-get_or, same_Some}
 use Rattle.std.proofs.lemmas.List.FromFn.{get_or-map-range_with_len, length-map-range_with_len}
 use Rattle.hop_event.specs.declared.event.Event.{Event}
-use Rattle.hop_event.specs.Legal.{Rules, AllWon}
+use Rattle.hop_event.specs.Legal.{AllWon}
 use Rattle.hop_event.specs.Agreement.{history_at}
 use Rattle.hop_machine.specs.step.Steps.{Deeds, rules_of}
 use Rattle.hop_machine.specs.step.Pushing.{kept_end}

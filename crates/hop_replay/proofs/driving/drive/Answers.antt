@@ -1,5 +1,4 @@
-use Rattle.std.proofs.Common.{rules, ◌≡◌, ◌+◌, ◌-◌, ◌^◌, [], map, arith, sym, ap, ◌∙◌, subst, Err}
-use Rattle.hop_machine.specs.step.Steps.{Setup}
+use Rattle.std.proofs.Common.{rules, ◌≡◌, ◌+◌, ◌-◌, ◌^◌, [], map, arith, sym, subst, Err}
 use Rattle.hop_machine.specs.play.Play.{World, Place, Opening, Listed, Over}
 use Rattle.hop_machine.proofs.home.Here.{all_kept}
 use Rattle.hop_machine.proofs.play.Plays.{went_same}

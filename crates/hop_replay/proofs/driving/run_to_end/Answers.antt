@@ -7,7 +7,7 @@ use Rattle.hop_actors.specs.declared.fault.Fault.{Fault}
 use Rattle.hop_actors.specs.declared.fault.Fault.TheVariants as fault
 use Rattle.hop_machine.specs.step.Steps.{Setup}
 use Rattle.hop_machine.specs.home.Said.{history_of}
-use Rattle.hop_machine.specs.play.Play.{World, Place, Opening}
+use Rattle.hop_machine.specs.play.Play.{World, Opening}
 use Rattle.hop_machine.specs.run.AllHome.{RanToItsEnd}
 use Rattle.hop_machine.proofs.run.Starting.{start_at_home}
 use Rattle.hop_machine.proofs.run.WholeRun.{ends_settled}
