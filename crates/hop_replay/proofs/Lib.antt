@@ -1,0 +1,4 @@
+pub mod Drove
+pub mod GoingOn
+pub mod Stopping
+pub mod Whole

@@ -1,0 +1,6 @@
+//! A job that is run over exact ends, as on one thread: its actors take the turns of a turn list and are settled, and what they leave is read off them.
+#![tactic(auto)]
+
+pub mod driving;
+
+pub use driving::{RunEnd, run_to_end};
