@@ -1,3 +1,4 @@
+pub mod Delays
 pub mod Drove
 pub mod GoingOn
 pub mod Stopping

@@ -2,5 +2,6 @@
 #![tactic(auto)]
 
 pub mod driving;
+pub mod script_laws;
 
 pub use driving::{RunEnd, run_to_end};
