@@ -2,6 +2,8 @@
 #![tactic(auto)]
 
 pub mod driving;
+pub mod folder_laws;
 pub mod script_laws;
+pub mod size_laws;
 
 pub use driving::{RunEnd, run_to_end};
