@@ -1,17 +1,12 @@
 -- The spill folders of a run, by worker.
-use Rattle.std.proofs.Common.{◌≡◌, ◌≢◌, ◌⊎◌, inl, inr, ⊎_elim, ℕ, zero, suc, ◌≤◌, ◌<◌, Bool, true, false, List, [], ◌∷◌, length, map, Some, None, Option, slice_set, is_some, refl, sym, ap, ◌∙◌, subst, arith}
-use Rattle.std.specs.Prelude.{IfSome, slice_index_or}
-use Rattle.std.specs.List.{slice_get, list_all}
+use Rattle.std.proofs.Common.{◌≡◌, ◌≢◌, ◌⊎◌, inl, inr, ⊎_elim, ℕ, zero, suc, ◌≤◌, ◌<◌, true, false, List, [], ◌∷◌, length, map, Some, None, Option, slice_set, is_some, refl, sym, ap, ◌∙◌, subst, arith}
+use Rattle.std.specs.List.{slice_get}
 use Rattle.std.proofs.lemmas.Bool.{true≢false}
 use Rattle.std.proofs.lemmas.List.{length-map}
-use Rattle.std.proofs.lemmas.Simd.{map-map}
-use Rattle.std.proofs.lemmas.Option.{same_Some, none-some, slice_get_within}
-use Rattle.hop_base.specs.Causes.{Rose}
+use Rattle.std.proofs.lemmas.Option.{same_Some, slice_get_within}
 use Rattle.hop_base.specs.Files.{Files}
-use Rattle.hop_base.specs.Meaning.{Meaning}
 use Rattle.hop_ports.specs.Views.{FolderView}
 use Rattle.hop_actors.specs.Counting.{Counts, PutFailed, GetFailed, StoreCause}
-use Rattle.hop_actors.specs.Spilled.{IsSpilled}
 use Rattle.hop_actors.specs.declared.fault.Fault.{Fault}
 use Rattle.hop_actors.specs.declared.fault.Fault.TheVariants as fault
 use Rattle.hop_machine.proofs.ending.Winners.{less_or_not}
