@@ -55,8 +55,8 @@ fail_short (s ∷ []) = tt
 fail_short (s ∷ a ∷ []) = tt
 fail_short (s ∷ a ∷ n ∷ []) =
     behind (λ x. Unit {0}) IsShort (number_of 0 1023 s) (λ s. number_of 0 15 a >>= (λ a. number_of 0 16777216 n >>= (λ n. Some (Fail s a n)))) (any (number_of 0 1023 s)) (λ x _.
-      behind (λ x. Unit {0}) IsShort (number_of 0 15 a) (λ a. number_of 0 16777216 n >>= (λ n. Some (Fail x a n))) (any (number_of 0 15 a)) (λ y _.
-        behind (λ x. Unit {0}) IsShort (number_of 0 16777216 n) (λ n. Some (Fail x y n)) (any (number_of 0 16777216 n)) (λ z _. tt)))
+    behind (λ x. Unit {0}) IsShort (number_of 0 15 a) (λ a. number_of 0 16777216 n >>= (λ n. Some (Fail x a n))) (any (number_of 0 15 a)) (λ y _.
+    behind (λ x. Unit {0}) IsShort (number_of 0 16777216 n) (λ n. Some (Fail x y n)) (any (number_of 0 16777216 n)) (λ z _. tt)))
 fail_short (s ∷ a ∷ n ∷ w ∷ words) = tt
 
 restart_short : (words : List (List ℕ)) → IfSome (restart_form words) IsShort
@@ -64,7 +64,7 @@ restart_short [] = tt
 restart_short (p ∷ []) = tt
 restart_short (p ∷ n ∷ []) =
     behind (λ x. Unit {0}) IsShort (number_of 0 7 p) (λ p. number_of 1 1000000 n >>= (λ n. Some (Restart p n))) (any (number_of 0 7 p)) (λ x _.
-      behind (λ x. Unit {0}) IsShort (number_of 1 1000000 n) (λ n. Some (Restart x n)) (any (number_of 1 1000000 n)) (λ y _. tt))
+    behind (λ x. Unit {0}) IsShort (number_of 1 1000000 n) (λ n. Some (Restart x n)) (any (number_of 1 1000000 n)) (λ y _. tt))
 restart_short (p ∷ n ∷ w ∷ words) = tt
 
 delay_short : (words : List (List ℕ)) → IfSome (delay_form words) IsShort
@@ -72,7 +72,7 @@ delay_short [] = tt
 delay_short (w ∷ []) = tt
 delay_short (w ∷ n ∷ []) =
     behind (λ x. Unit {0}) IsShort (number_of 0 7 w) (λ w. number_of 1 10000 n >>= (λ n. Some (Delay w n))) (any (number_of 0 7 w)) (λ x _.
-      behind (λ n. n ≤ 10000) IsShort (number_of 1 10000 n) (λ n. Some (Delay x n)) (upto_high 1 10000 (decimal_of n)) (λ y h. h))
+    behind (λ n. n ≤ 10000) IsShort (number_of 1 10000 n) (λ n. Some (Delay x n)) (upto_high 1 10000 (decimal_of n)) (λ y h. h))
 delay_short (w ∷ n ∷ x ∷ words) = tt
 
 line_short : (words : List (List ℕ)) → IfSome (line_form words) IsShort
