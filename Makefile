@@ -7,9 +7,9 @@
 # `rt try` builds and runs it in a folder of its own, which it then removes with the part files.
 demo:
 	@echo "Builds hop and counts the words of crates/hop_main/data/in.txt: about two minutes."
-	@echo "Not proved by this command: make test proves all, in about 40 minutes on four processors."
+	@echo "Not proved by this command: make test proves all, in about an hour on four processors."
 	cd crates/hop_main && rt try --data in.txt=data/in.txt -- block wc in.txt
-	@echo "The part file went with the folder of that run. make hop proves the program, some ten minutes, and leaves it as ./hop."
+	@echo "The part file went with the folder of that run. make hop proves the program, some half an hour, and leaves it as ./hop."
 
 # `rt run` proves the program, builds it and runs it; with no words it answers that they are not
 # understood, so what counts here is that the program stands there afterwards.
