@@ -1,4 +1,4 @@
-//! Tests of the crates, a module for each, through their public calls alone.
+//! Tests of the crates that a run stands on, a module for each, through their public calls alone.
 #![tactic(auto)]
 
 #[cfg(test)]
@@ -28,10 +28,4 @@ mod shelf;
 #[cfg(test)]
 mod spill;
 #[cfg(test)]
-mod top;
-#[cfg(test)]
-mod trace;
-#[cfg(test)]
 mod vault;
-#[cfg(test)]
-mod words;

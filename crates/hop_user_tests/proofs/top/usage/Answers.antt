@@ -6,7 +6,7 @@ use Rattle.hop_words.specs.Options.{AskedOptions}
 use Rattle.hop_top.specs.Meets.{Meets}
 use Rattle.hop_top.specs.Spilling.{Spilling}
 use Rattle.hop_top.proofs.CompleteLaws.{nothing_asked}
-use Rattle.hop_tests.proofs.top.usage.Goals as goal
+use Rattle.hop_user_tests.proofs.top.usage.Goals as goal
 
 pub returns : goal.returns
 returns g c = λ asks.

@@ -4,7 +4,7 @@ use Rattle.hop_ports.specs.Clean.{clean_view}
 use Rattle.hop_ports.specs.Sinks.{memory_sink}
 use Rattle.hop_top.specs.Spilling.{Spilling}
 use Rattle.hop_top.proofs.CompleteLaws.{no_input_fails}
-use Rattle.hop_tests.proofs.top.over_clean_present.Goals as goal
+use Rattle.hop_user_tests.proofs.top.over_clean_present.Goals as goal
 
 pub returns : goal.returns
 returns c = λ options files file asks held read e.

@@ -1,0 +1,9 @@
+//! Tests of what a user types and reads: the words of the command line, the commands, and the text of a trace.
+#![tactic(auto)]
+
+#[cfg(test)]
+mod top;
+#[cfg(test)]
+mod trace;
+#[cfg(test)]
+mod words;
