@@ -29,6 +29,14 @@ abbrev pub IsSpilled : Meaning → List (List ℕ) → (split reducers spill : �
 IsSpilled job records split reducers spill lens kept start now =
     IfSome now (λ held. (from : Files) × (start ≡ Some from) × HoldsMade job records split reducers spill lens kept from held)
 
+-- the name is that of a spill's file
+abbrev pub IsSpillName : List ℕ → Type 0
+IsSpillName name = (split : ℕ) × (attempt : ℕ) × (from : ℕ) × (name ≡ name_of split attempt from)
+
+-- Only files of spills were put: where the folder tells what it holds, it told at the start, and under all other names it holds what it held then.
+abbrev pub OnlySpills : Option Files → Option Files → Type 0
+OnlySpills start now = IfSome now (λ held. (from : Files) × (start ≡ Some from) × ((name : List ℕ) → (IsSpillName name → ⊥) → files.get held name ≡ files.get from name))
+
 -- the range is made of whole spills that were kept: it begins where a spill does, and ends where one does
 pub record MayFetch (m : Mapper) (part : Part) : Type 0 where
   pub some : part.from < part.to

@@ -6,7 +6,7 @@ ghost use Rattle.hop_machine.specs.declared.words.Turn.TheVariants as said;
 ghost use Rattle.hop_machine.specs.actors.MapperTurns.{Mapper};
 ghost use Rattle.hop_actors.specs.Acting.{Maps, said_fault};
 ghost use Rattle.hop_actors.specs.Counting.{StoreCause};
-ghost use Rattle.hop_actors.specs.Spilled.{IsSpilled, MayFetch, TogetherStand};
+ghost use Rattle.hop_actors.specs.Spilled.{IsSpilled, OnlySpills, MayFetch, TogetherStand};
 
 use crate::actor::Actor;
 use crate::fault::Fault;
@@ -21,9 +21,11 @@ pub trait Store<N: RunName, E: Reach<N>>: Actor<N, E> {
     /// What its folder holds, where it tells.
     ghost held: { Self → Option Files };
 
-    /// Unless a turn failed, its folder holds what it held at the start, and the files of what it kept. It does nothing: proofs learn it so.
+    /// What its folder holds. Unless a turn failed, it is what it held at the start, and the files of what it kept; and always, under a name that no spill's
+    /// file has, it is what it held at the start. It does nothing: proofs learn it so.
     fn known(&self)
-        ensures { Self.failed self.now ≡ false → IsSpilled N.job N.records N.settings.split N.settings.reducers N.settings.spill (mapper self.now).rules.lens (mapper self.now).kept (slice_index_or N.spills (mapper self.now).number None) (held self.now) };
+        ensures spilled { Self.failed self.now ≡ false → IsSpilled N.job N.records N.settings.split N.settings.reducers N.settings.spill (mapper self.now).rules.lens (mapper self.now).kept (slice_index_or N.spills (mapper self.now).number None) (held self.now) }
+        ensures only { OnlySpills (slice_index_or N.spills (mapper self.now).number None) (held self.now) };
 
     /// The end of the kept spills of the attempt, in records of its split: 0 where there are none.
     fn kept(&self, split: u32, attempt: u8) -> u32

@@ -7,6 +7,7 @@ pub mod TurnLaws
 pub mod PartsOfTurns
 pub mod Fitting
 pub mod Offering
+pub mod OnlySpilled
 pub mod SpilledLaws
 pub mod FaultLaws
 pub mod Starting

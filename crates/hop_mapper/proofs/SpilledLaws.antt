@@ -4,7 +4,7 @@ use Rattle.std.specs.Prelude.{All, min, slice_index_or}
 use Rattle.hop_machine.specs.declared.words.Turn.{Turn}
 use Rattle.hop_machine.specs.home.MapperHome.{has_failed}
 use Rattle.hop_mapper.specs.Mappers.{MapperValue}
-use Rattle.hop_mapper.specs.Sound.{HoldsSpills}
+use Rattle.hop_mapper.specs.Sound.{HoldsSpills, PutOnlySpills, KeepsFolder}
 use Rattle.std.specs.FinMap as files
 use Rattle.std.proofs.Math.Nat.{lt_of_mul-lt-mul_right, mod-add-div'}
 use Rattle.std.proofs.lemmas.Bool.{eqb-true, eq-eqb, cases_lt}
@@ -24,9 +24,10 @@ use Rattle.hop_vault.specs.Rows.{Table, row_of, kept_end, IsChain}
 use Rattle.hop_vault.proofs.NameLaws.{name_tells}
 use Rattle.hop_vault.proofs.SoundLaws.{chain_up}
 use Rattle.hop_press.specs.Fits.{IsMade, KeepsMade}
-use Rattle.hop_actors.specs.Spilled.{IsKeptSpill, HoldsMade, IsSpilled}
+use Rattle.hop_actors.specs.Spilled.{IsKeptSpill, HoldsMade, IsSpilled, OnlySpills}
 use Rattle.hop_mapper.specs.Next.{AddsSpill, AddsAtMost, split_len}
 use Rattle.hop_mapper.proofs.Keeping.{get_other, get_itself}
+use Rattle.hop_mapper.proofs.OnlySpilled.{only_same, only_both}
 use Rattle.hop_mapper.proofs.TurnLaws.{ends_after}
 
 -- numbers of one multiple each, less than a multiple apart
@@ -179,7 +180,7 @@ abbrev Kept_files : Meaning → List (List ℕ) → RunSettings → (ℕ → ℕ
 Kept_files job records settings kept start folder = IsSpilled job records settings.split settings.reducers settings.spill (lens_of (book_of records settings)) kept start folder
 
 -- after a turn that did not fail the folder holds what it is to hold
-pub holds_after : (job : Meaning) (records : List (List ℕ)) (settings : RunSettings) (spills : List (Option Files)) {V K : Type 0} (seen : V → FolderView) (m n : MapperValue V K) (said : Turn) → n.failed ≡ has_failed said
+holds_after : (job : Meaning) (records : List (List ℕ)) (settings : RunSettings) (spills : List (Option Files)) {V K : Type 0} (seen : V → FolderView) (m n : MapperValue V K) (said : Turn) → n.failed ≡ has_failed said
     → (has_failed said ≡ false → AddsAtMost job records settings (seen m.vault.folder).held (seen n.vault.folder).held m.vault.rows n.vault.rows) → n.vault.worker ≡ m.vault.worker → m.failed ≡ false
     → HoldsSpills job records settings spills seen m → HoldsSpills job records settings spills seen n
 holds_after job records settings spills seen m n said failed adds worker well h f = subst (λ (w : ℕ). Kept_files job records settings (λ i a. kept_end n.vault.rows i a) (slice_index_or spills w None) (seen n.vault.folder).held) (sym worker) (by (adds (sym failed ∙ f)))
@@ -189,9 +190,31 @@ holds_after job records settings spills seen m n said failed adds worker well h 
     by (inr x) = spilled_more job records settings (seen m.vault.folder).held (seen n.vault.folder).held m.vault.rows n.vault.rows x.0 x.1 (slice_index_or spills m.vault.worker None) (h well)
 
 -- nor does it change where nothing is kept and nothing is put
-pub holds_still : (job : Meaning) (records : List (List ℕ)) (settings : RunSettings) (spills : List (Option Files)) {V K : Type 0} (seen : V → FolderView) (m n : MapperValue V K) → n.failed ≡ m.failed → (seen n.vault.folder).held ≡ (seen m.vault.folder).held → n.vault.rows ≡ m.vault.rows → n.vault.worker ≡ m.vault.worker
+holds_still : (job : Meaning) (records : List (List ℕ)) (settings : RunSettings) (spills : List (Option Files)) {V K : Type 0} (seen : V → FolderView) (m n : MapperValue V K) → n.failed ≡ m.failed → (seen n.vault.folder).held ≡ (seen m.vault.folder).held → n.vault.rows ≡ m.vault.rows → n.vault.worker ≡ m.vault.worker
     → HoldsSpills job records settings spills seen m → HoldsSpills job records settings spills seen n
 holds_still job records settings spills seen m n failed held rows worker h f =
     subst (λ (w : ℕ). Kept_files job records settings (λ i a. kept_end n.vault.rows i a) (slice_index_or spills w None) (seen n.vault.folder).held) (sym worker)
     (subst (λ (t : Table). Kept_files job records settings (λ i a. kept_end t i a) (slice_index_or spills m.vault.worker None) (seen n.vault.folder).held) (sym rows)
     (subst (λ (o : Option Files). Kept_files job records settings (λ i a. kept_end m.vault.rows i a) (slice_index_or spills m.vault.worker None) o) (sym held) (h (sym failed ∙ f))))
+
+-- and at every answer only files of spills were put, if none else was put since the last one
+only_after : (spills : List (Option Files)) {V K : Type 0} (seen : V → FolderView) (m n : MapperValue V K) → OnlySpills (seen m.vault.folder).held (seen n.vault.folder).held → n.vault.worker ≡ m.vault.worker → PutOnlySpills spills seen m → PutOnlySpills spills seen n
+only_after spills seen m n only worker h =
+    subst (λ (w : ℕ). OnlySpills (slice_index_or spills w None) (seen n.vault.folder).held) (sym worker) (only_both (slice_index_or spills m.vault.worker None) (seen m.vault.folder).held (seen n.vault.folder).held h only)
+
+-- both after a turn
+pub folder_after : (job : Meaning) (records : List (List ℕ)) (settings : RunSettings) (spills : List (Option Files)) {V K : Type 0} (seen : V → FolderView) (m n : MapperValue V K) (said : Turn) → n.failed ≡ has_failed said
+    → (has_failed said ≡ false → AddsAtMost job records settings (seen m.vault.folder).held (seen n.vault.folder).held m.vault.rows n.vault.rows) → OnlySpills (seen m.vault.folder).held (seen n.vault.folder).held → n.vault.worker ≡ m.vault.worker → m.failed ≡ false
+    → KeepsFolder job records settings spills seen m → KeepsFolder job records settings spills seen n
+folder_after job records settings spills seen m n said failed adds only worker well h = record {
+  only = only_after spills seen m n only worker h.only;
+  spilled = holds_after job records settings spills seen m n said failed adds worker well h.spilled;
+}
+
+-- and after a call that keeps nothing and puts nothing
+pub folder_still : (job : Meaning) (records : List (List ℕ)) (settings : RunSettings) (spills : List (Option Files)) {V K : Type 0} (seen : V → FolderView) (m n : MapperValue V K) → n.failed ≡ m.failed → (seen n.vault.folder).held ≡ (seen m.vault.folder).held → n.vault.rows ≡ m.vault.rows → n.vault.worker ≡ m.vault.worker
+    → KeepsFolder job records settings spills seen m → KeepsFolder job records settings spills seen n
+folder_still job records settings spills seen m n failed held rows worker h = record {
+  only = only_after spills seen m n (only_same (seen m.vault.folder).held (seen n.vault.folder).held held) worker h.only;
+  spilled = holds_still job records settings spills seen m n failed held rows worker h.spilled;
+}

@@ -10,7 +10,7 @@ use Rattle.hop_shelf.specs.Names.{book_of, IsRun}
 use Rattle.hop_vault.specs.Rows.{Table, kept_end}
 use Rattle.hop_press.specs.Fits.{KeepsMade}
 use Rattle.hop_press.specs.Held.{LaneValue, AreReady}
-use Rattle.hop_actors.specs.Spilled.{IsSpilled}
+use Rattle.hop_actors.specs.Spilled.{IsSpilled, OnlySpills}
 use Rattle.hop_mapper.specs.Mappers.{MapperValue, settings_of}
 
 -- what a mapper borrows is of the run
@@ -36,3 +36,12 @@ pub record IsSound (job : Meaning) (records : List (List ℕ)) (script : ScriptL
 abbrev pub HoldsSpills : Meaning → List (List ℕ) → RunSettings → List (Option Files) → {V K : Type 0} → (V → FolderView) → MapperValue V K → Type 0
 HoldsSpills job records settings spills seen m =
     m.failed ≡ false → IsSpilled job records settings.split settings.reducers settings.spill (lens_of (book_of records settings)) (λ i a. kept_end m.vault.rows i a) (slice_index_or spills m.vault.worker None) (seen m.vault.folder).held
+
+-- at every answer, also after a turn that failed, only files of spills were put in its folder, where it tells
+abbrev pub PutOnlySpills : List (Option Files) → {V K : Type 0} → (V → FolderView) → MapperValue V K → Type 0
+PutOnlySpills spills seen m = OnlySpills (slice_index_or spills m.vault.worker None) (seen m.vault.folder).held
+
+-- the two together: what its folder holds at every answer, and unless a turn failed
+pub record KeepsFolder (job : Meaning) (records : List (List ℕ)) (settings : RunSettings) (spills : List (Option Files)) {V K : Type 0} (seen : V → FolderView) (m : MapperValue V K) : Type 0 where
+  pub only : PutOnlySpills spills seen m
+  pub spilled : HoldsSpills job records settings spills seen m

@@ -20,7 +20,8 @@ use std::marker::Model;
 
 /// A map worker of a run. It has at most one running attempt, keeps the spills of all its attempts in its
 /// vault, and holds what its lanes have no room for in its press. Where its folder tells, that holds what it
-/// held at the start and the files of just the spills that were kept, unless a turn failed.
+/// held at the start and the files of just the spills that were kept, unless a turn failed. Then too only files
+/// of spills were put.
 #[derive(Drop)]
 pub struct Mapper<'a, N: RunName, V: Folder, J: Job, G: Gate, K: Knowing> {
     state: State<'a, N, V, J, G, K>,
@@ -28,13 +29,13 @@ pub struct Mapper<'a, N: RunName, V: Folder, J: Job, G: Gate, K: Knowing> {
 
 impl<'a, N: RunName, V: Folder, J: Job, G: Gate, K: Knowing> Model for Mapper<'a, N, V, J, G, K> {
     ghost use Rattle.hop_mapper.specs.Mappers.{MapperValue};
-    ghost use Rattle.hop_mapper.specs.Sound.{HoldsSpills};
+    ghost use Rattle.hop_mapper.specs.Sound.{KeepsFolder};
 
     ghost Value = { MapperValue V K };
 
     ghost view = { λ m. m.state };
 
-    ghost invariant = { λ m. HoldsSpills N.job N.records N.settings N.spills V.seen m.state };
+    ghost invariant = { λ m. KeepsFolder N.job N.records N.settings N.spills V.seen m.state };
 }
 
 impl<'a, N: RunName, V: Folder + Drop, J: Job, G: Gate, K: Knowing> Mapper<'a, N, V, J, G, K> {
@@ -86,11 +87,11 @@ impl<'a, N: RunName, V: Folder, J: Job, G: Gate, K: Knowing> Mapper<'a, N, V, J,
     ghost use Rattle.hop_actors.specs.Acting.{said_turn, said_fault, Maps, MayMap};
     ghost use Rattle.hop_machine.specs.declared.words.Turn.TheVariants as said;
     ghost use Rattle.hop_actors.specs.Counting.{StoreCause, TurnCause};
-    ghost use Rattle.hop_actors.specs.Spilled.{MayFetch, TogetherStand};
+    ghost use Rattle.hop_actors.specs.Spilled.{OnlySpills, MayFetch, TogetherStand};
     ghost use Rattle.hop_shelf.specs.Names.{pairs_of};
     ghost use Rattle.std.specs.Prelude.{IfErr, OnOk};
     ghost use Rattle.hop_mapper.specs.Mappers.{mapper_of, counts_of, FitsBoard};
-    ghost use Rattle.hop_mapper.specs.Sound.{HoldsSpills};
+    ghost use Rattle.hop_mapper.specs.Sound.{HoldsSpills, PutOnlySpills};
 
     /// Its vault, as its turns left it. It takes no memory.
     pub fn into_vault(self) -> Vault<V>
@@ -111,6 +112,7 @@ impl<'a, N: RunName, V: Folder, J: Job, G: Gate, K: Knowing> Mapper<'a, N, V, J,
         ensures fits { FitsBoard N.job N.records N.settings N.tells K.knows K.board self.new (E.deeds reach.new) }
         ensures cause { TurnCause (Maps (mapper_of N.records N.script N.settings self.old)) (counts_of V.seen self.old.vault) (counts_of V.seen self.new.vault) result }
         ensures spilled { HoldsSpills N.job N.records N.settings N.spills V.seen self.new }
+        ensures only { OnlySpills (V.seen self.old.vault.folder).held (V.seen self.new.vault.folder).held }
     {
         self.state.turn(reach)
     }
@@ -153,9 +155,11 @@ impl<'a, N: RunName, V: Folder, J: Job, G: Gate, K: Knowing> Mapper<'a, N, V, J,
         self.state.fetch_back(part, p)
     }
 
-    /// What its folder holds, unless a turn failed. It does nothing: proofs learn it so.
+    /// What its folder holds: at every answer only files of spills were put, and unless a turn failed, those of just the spills that were kept. It does
+    /// nothing: proofs learn it so.
     pub(crate) fn holds_spills(&self)
-        ensures { HoldsSpills N.job N.records N.settings N.spills V.seen self.now }
+        ensures spilled { HoldsSpills N.job N.records N.settings N.spills V.seen self.now }
+        ensures only { PutOnlySpills N.spills V.seen self.now }
     {
         let _state = &self.state;
     }

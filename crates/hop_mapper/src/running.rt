@@ -32,6 +32,7 @@ impl<'a, N: RunName, V: Folder, J: Job, G: Gate, K: Knowing> State<'a, N, V, J, 
     ghost use Rattle.hop_machine.specs.home.MapperHome.{has_failed};
     ghost use Rattle.hop_actors.specs.Acting.{said_turn, Maps};
     ghost use Rattle.hop_actors.specs.Counting.{TurnCause};
+    ghost use Rattle.hop_actors.specs.Spilled.{OnlySpills};
     ghost use Rattle.hop_mapper.specs.Mappers.{mapper_of, counts_of, FitsBoard, SameButHeld};
     ghost use Rattle.hop_mapper.specs.Next.{split_len, RunsHere, AddsAtMost};
     ghost use Rattle.hop_machine.specs.step.Steps.{BoardEnd};
@@ -176,6 +177,7 @@ impl<'a, N: RunName, V: Folder, J: Job, G: Gate, K: Knowing> State<'a, N, V, J, 
         ensures fits { FitsBoard N.job N.records N.settings N.tells K.knows K.board self.new (E.deeds reach.new) }
         ensures cause { TurnCause (Maps (mapper_of N.records N.script N.settings self.old)) (counts_of V.seen self.old.vault) (counts_of V.seen self.new.vault) result }
         ensures adds { has_failed (said_turn result) ≡ false → AddsAtMost N.job N.records N.settings (V.seen self.old.vault.folder).held (V.seen self.new.vault.folder).held self.old.vault.rows self.new.vault.rows }
+        ensures only { OnlySpills (V.seen self.old.vault.folder).held (V.seen self.new.vault.folder).held }
         ensures worker { self.new.vault.worker ≡ self.old.vault.worker }
     {
         if self.must_fail(run) {

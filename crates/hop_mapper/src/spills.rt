@@ -30,6 +30,7 @@ impl<'a, N: RunName, V: Folder, J: Job, G: Gate, K: Knowing> State<'a, N, V, J, 
     ghost use Rattle.hop_machine.specs.home.MapperHome.{has_failed};
     ghost use Rattle.hop_actors.specs.Acting.{said_turn, said_fault, Maps};
     ghost use Rattle.hop_actors.specs.Counting.{StoreCause, TurnCause};
+    ghost use Rattle.hop_actors.specs.Spilled.{OnlySpills};
     ghost use Rattle.hop_mapper.specs.Mappers.{mapper_of, counts_of, FitsBoard, SameButVault};
     ghost use Rattle.hop_mapper.specs.Next.{IsNext, RunsHere, AddsSpill, AddsAtMost, split_len};
     ghost use Rattle.hop_machine.specs.declared.words.Turn.TheVariants as answers;
@@ -56,6 +57,7 @@ impl<'a, N: RunName, V: Folder, J: Job, G: Gate, K: Knowing> State<'a, N, V, J, 
         requires spill { IsSpill (spill_made N.job N.records N.settings.split N.settings.reducers part) }
         ensures adds { OnOk result (AddsSpill N.job N.records N.settings (V.seen self.old.vault.folder).held (V.seen self.new.vault.folder).held self.old.vault.rows self.new.vault.rows part) }
         ensures rows { OnErr result (SameRows self.old.vault.rows self.new.vault.rows) }
+        ensures only { OnlySpills (V.seen self.old.vault.folder).held (V.seen self.new.vault.folder).held }
         ensures rest { SameButVault self.old self.new }
         ensures stops { IfErr result (λ fault. said_fault fault ≡ answers.Stopped) }
         ensures answered { OnOk result (counts_of V.seen self.new.vault ≡ counts_of V.seen self.old.vault) }
@@ -75,6 +77,7 @@ impl<'a, N: RunName, V: Folder, J: Job, G: Gate, K: Knowing> State<'a, N, V, J, 
         requires next { IsNext N.records N.settings self.old.vault.rows part }
         ensures adds { OnOk result (AddsSpill N.job N.records N.settings (V.seen self.old.vault.folder).held (V.seen self.new.vault.folder).held self.old.vault.rows self.new.vault.rows part) }
         ensures rows { OnErr result (SameRows self.old.vault.rows self.new.vault.rows) }
+        ensures only { OnlySpills (V.seen self.old.vault.folder).held (V.seen self.new.vault.folder).held }
         ensures rest { SameButVault self.old self.new }
         ensures stops { IfErr result (λ fault. said_fault fault ≡ answers.Stopped) }
         ensures answered { OnOk result (counts_of V.seen self.new.vault ≡ counts_of V.seen self.old.vault) }
@@ -107,6 +110,7 @@ impl<'a, N: RunName, V: Folder, J: Job, G: Gate, K: Knowing> State<'a, N, V, J, 
         ensures fits { FitsBoard N.job N.records N.settings N.tells K.knows K.board self.new (E.deeds reach.new) }
         ensures cause { TurnCause (Maps (mapper_of N.records N.script N.settings self.old)) (counts_of V.seen self.old.vault) (counts_of V.seen self.new.vault) result }
         ensures adds { has_failed (said_turn result) ≡ false → AddsAtMost N.job N.records N.settings (V.seen self.old.vault.folder).held (V.seen self.new.vault.folder).held self.old.vault.rows self.new.vault.rows }
+        ensures only { OnlySpills (V.seen self.old.vault.folder).held (V.seen self.new.vault.folder).held }
         ensures worker { self.new.vault.worker ≡ self.old.vault.worker }
     {
         self.known(run.split);

@@ -22,6 +22,7 @@ impl<'a, N: RunName, V: Folder, J: Job, G: Gate, K: Knowing> State<'a, N, V, J, 
     ghost use Rattle.hop_press.specs.Held.{said_lanes, lanes_left};
     ghost use Rattle.hop_actors.specs.Acting.{said_turn, Maps, MayMap};
     ghost use Rattle.hop_actors.specs.Counting.{StoreCause, TurnCause};
+    ghost use Rattle.hop_actors.specs.Spilled.{OnlySpills};
     ghost use Rattle.hop_mapper.specs.Mappers.{mapper_of, work_of, counts_of, FitsBoard};
     ghost use Rattle.hop_mapper.specs.Next.{WorksHere, AddsAtMost};
     ghost use Rattle.hop_mapper.specs.Faults.{flush_fault};
@@ -37,6 +38,7 @@ impl<'a, N: RunName, V: Folder, J: Job, G: Gate, K: Knowing> State<'a, N, V, J, 
         ensures fits { FitsBoard N.job N.records N.settings N.tells K.knows K.board self.new (E.deeds reach.new) }
         ensures cause { TurnCause (Maps (mapper_of N.records N.script N.settings self.old)) (counts_of V.seen self.old.vault) (counts_of V.seen self.new.vault) result }
         ensures adds { has_failed (said_turn result) ≡ false → AddsAtMost N.job N.records N.settings (V.seen self.old.vault.folder).held (V.seen self.new.vault.folder).held self.old.vault.rows self.new.vault.rows }
+        ensures only { OnlySpills (V.seen self.old.vault.folder).held (V.seen self.new.vault.folder).held }
         ensures worker { self.new.vault.worker ≡ self.old.vault.worker }
     {
         match self.work {
@@ -85,6 +87,7 @@ impl<'a, N: RunName, V: Folder, J: Job, G: Gate, K: Knowing> State<'a, N, V, J, 
         ensures fits { FitsBoard N.job N.records N.settings N.tells K.knows K.board self.new (E.deeds reach.new) }
         ensures cause { TurnCause (Maps (mapper_of N.records N.script N.settings self.old)) (counts_of V.seen self.old.vault) (counts_of V.seen self.new.vault) result }
         ensures adds { has_failed (said_turn result) ≡ false → AddsAtMost N.job N.records N.settings (V.seen self.old.vault.folder).held (V.seen self.new.vault.folder).held self.old.vault.rows self.new.vault.rows }
+        ensures only { OnlySpills (V.seen self.old.vault.folder).held (V.seen self.new.vault.folder).held }
         ensures worker { self.new.vault.worker ≡ self.old.vault.worker }
     {
         let worker = self.worker();
@@ -106,6 +109,7 @@ impl<'a, N: RunName, V: Folder, J: Job, G: Gate, K: Knowing> State<'a, N, V, J, 
         ensures fits { FitsBoard N.job N.records N.settings N.tells K.knows K.board self.new (E.deeds reach.new) }
         ensures cause { TurnCause (Maps (mapper_of N.records N.script N.settings self.old)) (counts_of V.seen self.old.vault) (counts_of V.seen self.new.vault) result }
         ensures adds { has_failed (said_turn result) ≡ false → AddsAtMost N.job N.records N.settings (V.seen self.old.vault.folder).held (V.seen self.new.vault.folder).held self.old.vault.rows self.new.vault.rows }
+        ensures only { OnlySpills (V.seen self.old.vault.folder).held (V.seen self.new.vault.folder).held }
         ensures worker { self.new.vault.worker ≡ self.old.vault.worker }
     {
         let delayed = self.is_delayed();
@@ -127,6 +131,7 @@ impl<'a, N: RunName, V: Folder, J: Job, G: Gate, K: Knowing> State<'a, N, V, J, 
         ensures fits { FitsBoard N.job N.records N.settings N.tells K.knows K.board self.new (E.deeds reach.new) }
         ensures cause { TurnCause (Maps (mapper_of N.records N.script N.settings self.old)) (counts_of V.seen self.old.vault) (counts_of V.seen self.new.vault) result }
         ensures adds { has_failed (said_turn result) ≡ false → AddsAtMost N.job N.records N.settings (V.seen self.old.vault.folder).held (V.seen self.new.vault.folder).held self.old.vault.rows self.new.vault.rows }
+        ensures only { OnlySpills (V.seen self.old.vault.folder).held (V.seen self.new.vault.folder).held }
         ensures worker { self.new.vault.worker ≡ self.old.vault.worker }
     {
         mapper_is_safe();

@@ -1,9 +1,10 @@
-use Rattle.std.proofs.Common.{◌≡◌, ◌+◌, arith}
+use Rattle.std.proofs.Common.{◌≡◌, ◌+◌, arith, refl}
 use Rattle.std.specs.Prelude.{min}
 use Rattle.hop_spill.specs.Spelling.{spill_in}
 use Rattle.hop_mapper.specs.Next.{split_len}
 use Rattle.hop_mapper.proofs.Made.{is_spill}
 use Rattle.hop_mapper.proofs.Offering.{spill_value}
+use Rattle.hop_mapper.proofs.OnlySpilled.{only_same}
 use Rattle.hop_mapper.proofs.state.State.keep.Goals as goal
 
 pub put-requires-clause-value : goal.put-requires-clause-value
@@ -25,3 +26,9 @@ put-requires-clause-spill g c =
       to = omega arith;
       few = omega arith;
     }) limits.some_reducers limits.few_reducers
+
+pub returns-in_default-clause-only : goal.returns-in_default-clause-only
+returns-in_default-clause-only g c = let held = (g.V.Folder.seen c.args.self.now.vault.folder).held in only_same held held refl
+
+pub returns-in_default-spill_of-clause-only : goal.returns-in_default-spill_of-clause-only
+returns-in_default-spill_of-clause-only g c = let held = (g.V.Folder.seen c.args.self.now.vault.folder).held in only_same held held refl

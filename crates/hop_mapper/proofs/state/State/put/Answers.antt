@@ -3,6 +3,8 @@ use Rattle.hop_mapper.specs.Mappers.{MapperValue}
 use Rattle.hop_mapper.specs.Next.{IsNext}
 use Rattle.hop_mapper.proofs.Keeping.{keeps_made, still_told}
 use Rattle.hop_spill.specs.Spelling.{spill_in}
+use Rattle.hop_actors.specs.Spilled.{OnlySpills}
+use Rattle.hop_mapper.proofs.OnlySpilled.{only_kept}
 use Rattle.hop_mapper.proofs.state.State.put.Goals as goal
 
 pub invariant_of-self : goal.invariant_of-self
@@ -46,3 +48,21 @@ invariant_of-self-in-Err-NoMemory g c =
       counts = inv.counts;
       ready = inv.ready;
     }
+
+pub returns-in-Ok-clause-only : goal.returns-in-Ok-clause-only
+returns-in-Ok-clause-only g c =
+    let old = g.V.Folder.seen c.self.inside.vault.folder in let new = g.V.Folder.seen c.keep_flat.new.self.folder in
+    subst (λ (m : MapperValue g.row.V.Denot g.row.K.Denot). OnlySpills (g.V.Folder.seen m.vault.folder).held new.held) c.self.view_is
+    (only_kept old new c.self.inside.vault.rows c.keep_flat.new.self.rows (spill_in c.args.spill.now) c.keep_flat.result c.keep_flat.ensures.kept c.keep_flat.ensures.cause)
+
+pub returns-in-Err-StoreFailed-clause-only : goal.returns-in-Err-StoreFailed-clause-only
+returns-in-Err-StoreFailed-clause-only g c =
+    let old = g.V.Folder.seen c.self.inside.vault.folder in let new = g.V.Folder.seen c.keep_flat.new.self.folder in
+    subst (λ (m : MapperValue g.row.V.Denot g.row.K.Denot). OnlySpills (g.V.Folder.seen m.vault.folder).held new.held) c.self.view_is
+    (only_kept old new c.self.inside.vault.rows c.keep_flat.new.self.rows (spill_in c.args.spill.now) c.keep_flat.result c.keep_flat.ensures.kept c.keep_flat.ensures.cause)
+
+pub returns-in-Err-NoMemory-clause-only : goal.returns-in-Err-NoMemory-clause-only
+returns-in-Err-NoMemory-clause-only g c =
+    let old = g.V.Folder.seen c.self.inside.vault.folder in let new = g.V.Folder.seen c.keep_flat.new.self.folder in
+    subst (λ (m : MapperValue g.row.V.Denot g.row.K.Denot). OnlySpills (g.V.Folder.seen m.vault.folder).held new.held) c.self.view_is
+    (only_kept old new c.self.inside.vault.rows c.keep_flat.new.self.rows (spill_in c.args.spill.now) c.keep_flat.result c.keep_flat.ensures.kept c.keep_flat.ensures.cause)

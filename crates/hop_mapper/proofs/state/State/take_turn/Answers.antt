@@ -10,6 +10,7 @@ use Rattle.hop_mapper.specs.Next.{WorksHere}
 use Rattle.hop_mapper.proofs.FaultLaws.{flush_stops}
 use Rattle.hop_mapper.proofs.TurnLaws.{lanes_safe}
 use Rattle.hop_mapper.proofs.PartsOfTurns.{act_safe, took_turn, turn_stopped}
+use Rattle.hop_mapper.proofs.OnlySpilled.{only_same}
 use Rattle.hop_mapper.proofs.state.State.take_turn.Goals as goal
 
 pub flush-requires-clause-safe : goal.flush-requires-clause-safe
@@ -43,3 +44,6 @@ returns-in-Err-clause-runs g c =
     let stopped = turn_stopped R.records R.script R.settings g.E.Reach.exact m n c.flush.ensures.rest c.flush.ensures.rows c.flush.ensures.worker a b h in
     let said = ap (λ f. Rattle.hop_actors.specs.Acting.said_fault f) c.flush_fault.ensures ∙ flush_stops c.worker-worker.result c.in-Err.fault in
     subst (λ t. Runs g.E.Reach.exact (takes_turn (mapper_of R.records R.script R.settings m)) a (mapper_of R.records R.script R.settings n, t) b) (sym said) stopped
+
+pub returns-in-Err-clause-only : goal.returns-in-Err-clause-only
+returns-in-Err-clause-only g c = only_same (g.V.Folder.seen c.args.self.now.vault.folder).held (g.V.Folder.seen c.flush.new.self.vault.folder).held c.flush.ensures.files

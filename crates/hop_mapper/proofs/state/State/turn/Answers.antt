@@ -1,10 +1,11 @@
-use Rattle.std.proofs.Common.{◌+◌, ◌*◌, ◌≤◌, sym, ◌∙◌, arith}
+use Rattle.std.proofs.Common.{◌+◌, ◌*◌, ◌≤◌, sym, ◌∙◌, arith, ap}
 use Rattle.hop_machine.specs.home.MapperHome.{has_failed}
 use Rattle.hop_inner.specs.Setups.{parts}
 use Rattle.hop_actors.specs.Acting.{said_turn}
-use Rattle.hop_mapper.specs.Mappers.{mapper_of}
+use Rattle.hop_mapper.specs.Mappers.{mapper_of, MapperValue}
 use Rattle.hop_mapper.proofs.PartsOfTurns.{open_safe, turned, over}
 use Rattle.hop_mapper.proofs.Working.{works_here}
+use Rattle.hop_mapper.proofs.OnlySpilled.{only_vault}
 use Rattle.hop_mapper.proofs.state.State.turn.Goals as goal
 
 pub open_turn-turn-requires-clause-here : goal.open_turn-turn-requires-clause-here
@@ -29,3 +30,6 @@ returns-clause-runs g c =
     let R = g.N.RunName in
     turned R.records R.script R.settings g.E.Reach.exact c.args.self.now c.open_turn-turn.new.self c.close.new.self (said_turn c.open_turn-turn.result) (has_failed (said_turn c.open_turn-turn.result)) (g.E.Reach.deeds c.args.reach.now) (g.E.Reach.deeds c.open_turn-turn.new.reach)
     (sym c.has_ended.ensures ∙ c.if-has_ended.false) c.close.ensures c.open_turn-turn.ensures.runs
+
+pub returns-then-has_ended-clause-only : goal.returns-then-has_ended-clause-only
+returns-then-has_ended-clause-only g c = only_vault g.V.Folder.seen c.args.self.now.vault c.count.new.self.vault (ap (λ (x : MapperValue g.row.V.Denot g.row.K.Denot). x.vault) c.count.ensures)
