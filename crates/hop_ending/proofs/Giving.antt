@@ -34,7 +34,8 @@ works_so : (ok : Bool) → NotSpent (works ok)
 works_so true = worked
 works_so false = stopped
 
-any : {A : Type 0} (k : Prog A) → Gives (λ x. Unit {0}) k
+-- whatever it gives
+pub any : {A : Type 0} (k : Prog A) → Gives (λ x. Unit {0}) k
 any (Done x) = tt
 any (Then s k) = λ o. any (k o)
 

@@ -1,7 +1,6 @@
--- Where a run gave up a split, each attempt of that split fails by the script, over any ends.
+-- Where a run gave up a split, it is one of the run's, and each attempt of it fails by the script, over any ends.
 use Rattle.std.proofs.Common.{◌≡◌, ◌≢◌, ℕ, ◌+◌, Bool, true, false, List, [], ◌∷◌, length, map, refl, sym, ap, ◌∙◌, subst, inl, inr, cond, nat_lt, Option, Some, None, slice_set, slice_index_or}
 use Rattle.hop_event.specs.Legal.{Rules}
-use Rattle.hop_event.specs.Failing.{IsDoomed}
 use Rattle.hop_machine.specs.declared.words.Who.{Who}
 use Rattle.hop_machine.specs.declared.words.Who.TheVariants as whose
 use Rattle.hop_machine.specs.declared.words.Turn.{Turn}
@@ -20,7 +19,9 @@ use Rattle.hop_machine.proofs.run.Turns.{DidMapper, DidReducer, by_mapper-run, b
 use Rattle.hop_machine.proofs.run.Coming.{done-came, turn_to-came, at_reducer-came, when-came}
 use Rattle.hop_machine.proofs.run.Places.{IsAt, place_told, next_at_home, went_at_home}
 use Rattle.hop_machine.proofs.run.Starting.{start_at_home}
+use Rattle.hop_ending.specs.Doomed.{IsDoomedSplit}
 use Rattle.hop_ending.proofs.Giving.{NotSpent, idle, reducer_never, writer_never}
+use Rattle.hop_ending.proofs.SpentSplit.{spent-split}
 
 -- # Places at which no split was given up
 
@@ -61,7 +62,7 @@ pass_isnt false ended = λ i e. cc
 -- # The step that is due
 
 abbrev pub DoomedIn : Deeds → ℕ → Type 0
-DoomedIn d i = IsDoomed d.setup.script d.setup.attempts i
+DoomedIn d i = IsDoomedSplit d.setup i
 
 -- a split that was given up there is doomed
 abbrev pub Dooms : Place × Actors → Deeds → Type 0
@@ -78,8 +79,10 @@ module _ (e : Bool) (x : Actors) (a b : Deeds) (z : Place × Actors) where
       let fit : d.0.rules.attempts ≡ a.setup.attempts = ap (λ (r : Rules). r.attempts) (h.mapper w d.0 d.1).home.fits.rules in
       let says : d.2.1 ≡ Spent i = sym (ap (λ (k : Actors × Turn). k.1) d.4) ∙ s in
       let same : b.setup ≡ a.setup = (Runs-rightly e (mapper_turn d.0) a b d.2 d.3).setup in
-      subst (λ (k : Setup). IsDoomed k.script k.attempts i) (sym same)
-      (spent-turn-doomed e d.0 d.2.0 a b i fit (subst (λ (t : Turn). Runs e (mapper_turn d.0) a (d.2.0, t) b) says d.3))
+      subst (λ (k : Setup). IsDoomedSplit k i) (sym same) (record {
+        is_split = spent-split e d.0 a b d.2 i (h.mapper w d.0 d.1).home d.3 says;
+        doomed = spent-turn-doomed e d.0 d.2.0 a b i fit (subst (λ (t : Turn). Runs e (mapper_turn d.0) a (d.2.0, t) b) says d.3);
+      })
 
   reducer_doomed : (p : ℕ) (y : Actors × Turn) (i : ℕ) → y.1 ≡ Spent i → DidReducer e p reducer_turn Idle x a y b → DoomedIn b i
   reducer_doomed p y i s (inl d) = absurd (idle i (sym (ap (λ (k : Actors × Turn). k.1) d.0) ∙ s))
@@ -168,7 +171,7 @@ IsDoomedAt c = IsAt c × Dooms (c.0, c.1.actors) c.1.deeds
 
 stays_doomed : (e : Bool) (a b : Place × World) → Went e a b → IsDoomedAt a → IsDoomedAt b
 stays_doomed e a b w h = went_keeps e IsDoomedAt
-    (λ x y p s l g. (went_at_home e x y (went_learns e x y p s l) g.0, λ i q. subst (λ (k : Setup). IsDoomed k.script k.attempts i) (sym l.setup) (g.1 i (sym p ∙ q))))
+    (λ x y p s l g. (went_at_home e x y (went_learns e x y p s l) g.0, λ i q. subst (λ (k : Setup). IsDoomedSplit k i) (sym l.setup) (g.1 i (sym p ∙ q))))
     (λ x y n g. (
       next_at_home e x y n g.0,
       program_dooms e x.1.actors n.told y.1.deeds (y.0, y.1.actors) x.0 (place_told e x.0 x.1.actors x.1.deeds n.told n.learns g.0) n.program n.is_due n.runs,
@@ -176,7 +179,7 @@ stays_doomed e a b w h = went_keeps e IsDoomedAt
 
 pub spent_doomed : (e : Bool) (from : Place) (i : ℕ) (a b : World) → NotLeft from → IsAtPlace from a.actors a.deeds → Went e (from, a) (NoneLeft i, b) → DoomedIn a.deeds i
 spent_doomed e from i a b n h w =
-    subst (λ (k : Setup). IsDoomed k.script k.attempts i) (went_same e (from, a) (NoneLeft i, b) w)
+    subst (λ (k : Setup). IsDoomedSplit k i) (went_same e (from, a) (NoneLeft i, b) w)
     ((stays_doomed e (from, a) (NoneLeft i, b) w (h, none_left from a.actors a.deeds n)).1 i refl)
 
 pub start_doomed : (e : Bool) (backup : Bool) (list : List Order) (i : ℕ) (a b : World) → IsStart backup a.actors a.deeds → Went e (Opening 0 list, a) (NoneLeft i, b) → DoomedIn a.deeds i

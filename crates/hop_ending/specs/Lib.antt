@@ -1,1 +1,4 @@
+pub mod Cuts
+pub mod Doomed
+pub mod WorkedCuts
 pub mod Workers
