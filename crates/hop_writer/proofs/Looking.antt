@@ -1,15 +1,16 @@
--- The cut lanes in turn, in a run without marks.
-use Rattle.std.proofs.Common.{◌≡◌, ℕ, zero, suc, ◌-◌, ◌<◌, ◌≤◌, Bool, List, [], ◌∷◌, ◌++◌, None, refl, subst, arith}
+-- The cut lanes in turn.
+use Rattle.std.proofs.Common.{◌≡◌, ℕ, zero, suc, ◌-◌, ◌<◌, ◌≤◌, Bool, List, [], ◌∷◌, ◌++◌, Some, None, refl, subst, arith}
 use Rattle.hop_machine.specs.declared.words.Turn.{Turn}
 use Rattle.hop_machine.specs.declared.words.Turn.TheVariants.{Idle}
 use Rattle.hop_machine.specs.step.Setup.{Setup, CutSaid}
 use Rattle.hop_machine.specs.step.CutLane.{AreCutsFrom, IsMark}
 use Rattle.hop_machine.specs.step.Steps.{Deeds, Steps, Runs, TakeCut}
-use Rattle.hop_machine.specs.actors.ReducerTurns.{Writer, writes, lane_after}
+use Rattle.hop_machine.specs.actors.ReducerTurns.{Writer, writes, wrote, works, lane_after}
+use Rattle.hop_machine.proofs.step.Programs.{risk_steps}
 use Rattle.hop_machine.specs.home.Conditions.{Safe, May}
 use Rattle.hop_inner.specs.Setups.{parts}
 
--- no cut lane allows a cut
+-- in a run without marks no cut lane allows a cut
 pub no_cut : (s : Setup) → s.marks ≡ [] → (cuts : List CutSaid) (c : CutSaid) (low : ℕ) → AreCutsFrom s low (cuts ++ c ∷ []) → ⊥
 no_cut s none [] c low h = subst (λ marks. IsMark marks c.mark) none h.0.mark
 no_cut s none (x ∷ cuts) c low h = subst (λ marks. IsMark marks x.mark) none h.0.mark
@@ -30,3 +31,8 @@ module _ (e : Bool) (x : Writer) where
   pub over_ran : (left p : ℕ) (a : Deeds) → left ≤ 0 → let y : Writer × Turn = (x, Idle) in Runs e (writes x left p) a y a
   over_ran zero p a l = (refl, refl)
   over_ran (suc n) p a l = absurd (omega arith)
+
+  -- a cut is taken, and its file is put or not
+  pub some_ran : (left p : ℕ) (c : CutSaid) (ok : Bool) (a b : Deeds) (y : Writer) (t : Turn) → 0 < left → Steps e (TakeCut p) (Some c) a b → y ≡ wrote x p c ok → t ≡ works ok → Runs e (writes x left p) a (y, t) b
+  some_ran zero p c ok a b y t l st is said = absurd (omega arith)
+  some_ran (suc n) p c ok a b y t l st is said = (Some c, b, st, (ok, b, risk_steps e ok b, ((λ i. (is i, said i)), refl)))
