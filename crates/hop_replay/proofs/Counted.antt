@@ -17,19 +17,21 @@ use Rattle.hop_replay.specs.Folders.{counts_seen, SameCounts, CountRose, WorkerF
 -- # Lists
 
 module _ {A : Type 0} where
-  set-here : (xs : List A) (i : ℕ) (a x : A) → slice_get xs i ≡ Some x → slice_get (slice_set xs i a) i ≡ Some a
+  -- what was set at a place stands there
+  pub set-here : (xs : List A) (i : ℕ) (a x : A) → slice_get xs i ≡ Some x → slice_get (slice_set xs i a) i ≡ Some a
   set-here [] i a x e = cc
   set-here (y ∷ ys) zero a x e = refl
   set-here (y ∷ ys) (suc i) a x e = set-here ys i a x e
 
-  set-else : (xs : List A) (i j : ℕ) (a : A) → j ≢ i → slice_get (slice_set xs i a) j ≡ slice_get xs j
+  -- and what stands at the others is as before
+  pub set-else : (xs : List A) (i j : ℕ) (a : A) → j ≢ i → slice_get (slice_set xs i a) j ≡ slice_get xs j
   set-else [] i j a n = refl
   set-else (y ∷ ys) zero zero a n = absurd (n refl)
   set-else (y ∷ ys) zero (suc j) a n = refl
   set-else (y ∷ ys) (suc i) zero a n = refl
   set-else (y ∷ ys) (suc i) (suc j) a n = set-else ys i j a (λ e. n (ap suc e))
 
-same-or-not : (v w : ℕ) → (v ≡ w) ⊎ (v ≢ w)
+pub same-or-not : (v w : ℕ) → (v ≡ w) ⊎ (v ≢ w)
 same-or-not v w =
     ⊎_elim (λ (l : v < w). inr (λ (e : v ≡ w). omega (arith, l, e))) (λ (l : w ≤ v).
     ⊎_elim (λ (k : w < v). inr (λ (e : v ≡ w). omega (arith, k, e))) (λ (k : v ≤ w). inl (omega (arith, l, k))) (less_or_not w v)) (less_or_not v w)

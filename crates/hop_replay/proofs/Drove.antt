@@ -3,7 +3,8 @@ use Rattle.std.proofs.Common.{◌≡◌, ℕ, ◌<◌, Bool, true, false, IsTrue
 use Rattle.std.specs.List.{slice_get}
 use Rattle.hop_event.specs.declared.event.Event.{Event}
 use Rattle.hop_event.specs.Agreement.{history_at}
-use Rattle.hop_event.specs.Failing.{IsDoomed, tries}
+use Rattle.hop_event.specs.Failing.{tries}
+use Rattle.hop_ending.specs.Doomed.{IsDoomedSplit}
 use Rattle.hop_laws.specs.Blocking.{blocking_texts}
 use Rattle.hop_machine.specs.step.Steps.{Setup, rules_of}
 use Rattle.hop_machine.specs.step.Pushing.{AllOfWorker}
@@ -67,7 +68,7 @@ module _ (g : Given) where
     blocking = told;
   }
 
-  pub spent-in : (s : Setup) → s ≡ setup_given g → (d : World) (split : ℕ) → Plays s g.settings.backup (orders_of g.turns) (NoneLeft split, machine d) × IsDoomed s.script s.attempts split → IsSpent g split
+  pub spent-in : (s : Setup) → s ≡ setup_given g → (d : World) (split : ℕ) → Plays s g.settings.backup (orders_of g.turns) (NoneLeft split, machine d) × IsDoomedSplit s split → IsSpent g split
   spent-in s same d split h =
-      let k = subst (λ (s : Setup). Plays s g.settings.backup (orders_of g.turns) (NoneLeft split, machine d) × IsDoomed s.script s.attempts split) same h in
-      record { end = machine d; play = k.0; doomed = k.1 }
+      let k = subst (λ (s : Setup). Plays s g.settings.backup (orders_of g.turns) (NoneLeft split, machine d) × IsDoomedSplit s split) same h in
+      record { end = machine d; play = k.0; is_split = k.1.is_split; doomed = k.1.doomed }

@@ -36,6 +36,3 @@ ended-so e a w go r f is h = subst (λ (z : Result (Unit {0}) Fault). IfErr z (E
 pub stopped-so : (a a' b : List Counts) (x x' y : Counts) (r : Result (Unit {0}) Fault) (f : Fault) → a ≡ a' → x ≡ x' → Err f ≡ r → CrewStops a b x y f → IfErr r (CrewStops a' b x' y)
 stopped-so a a' b x x' y r f same put is h =
     subst (λ (z : Result (Unit {0}) Fault). IfErr z (CrewStops a' b x' y)) is (subst (λ (k : List Counts × Counts). CrewStops k.0 b k.1 y f) (λ i. (same i, put i)) h)
-
-pub err-so : {A : Type 0} (r : Result A Fault) (f : Fault) (P : Fault → Type 0) → Err f ≡ r → P f → IfErr r P
-err-so {A} r f P is h = subst (λ (z : Result A Fault). IfErr z P) is h

@@ -1,7 +1,11 @@
+pub mod ByPlace
 pub mod Counted
 pub mod Delays
 pub mod Drove
 pub mod GoingOn
+pub mod Replayed
+pub mod Restoring
 pub mod Sizes
+pub mod Starts
 pub mod Stopping
 pub mod Whole

@@ -2,7 +2,7 @@
 use Rattle.std.proofs.Common.{◌≡◌, inl, inr, ℕ, Bool, true, false, List, refl, ap, subst, arith}
 use Rattle.std.specs.Prelude.{All}
 use Rattle.std.proofs.lemmas.Option.{slice_get-get_or}
-use Rattle.hop_event.specs.Failing.{IsDoomed}
+use Rattle.hop_ending.specs.Doomed.{IsDoomedSplit}
 use Rattle.hop_machine.specs.home.ReducerHome.{IsSetup}
 use Rattle.hop_machine.specs.play.Play.{Order, Place, Actors, World, Went, Opening, NoneLeft, machine}
 use Rattle.hop_machine.specs.play.FirstState.{Plays, IsNew}
@@ -34,7 +34,7 @@ stores-only a b f (inr h) = writer-memory a b f h.0 h.1
 
 -- where no attempt of a split is left the play ends so, and each attempt of it fails
 pub spent-so : (backup : Bool) (list : List Order) (a d : World) (f : Fault) (split : ℕ) → IsSetup a.deeds.setup → IsNew backup a → IsStart backup a.actors a.deeds → Ended true (Opening 0 list, a) d f → f ≡ fault.SpentAt split
-    → Plays a.deeds.setup backup list (NoneLeft split, machine d) × IsDoomed a.deeds.setup.script a.deeds.setup.attempts split
+    → Plays a.deeds.setup backup list (NoneLeft split, machine d) × IsDoomedSplit a.deeds.setup split
 spent-so backup list a d f split set new start ended is =
     let place : ended.0 ≡ NoneLeft split = subst (λ (z : Fault). EndsAt z ended.0) is ended.2 in
     let went : Went true (Opening 0 list, a) (NoneLeft split, d) = subst (λ (q : Place). Went true (Opening 0 list, a) (q, d)) place ended.1 in

@@ -51,9 +51,10 @@ pub record Drove (g : Given) (tells : Bool) (mappers : List Mapper) (t : Traced)
   pub parts : length texts ≡ g.settings.reducers
   pub blocking : IsTrue tells → texts ≡ blocking_texts g.job g.records g.settings.reducers
 
--- A run in which the last attempt of this split was spent: the script has a line for each attempt of it that may be begun, and the play
--- of the turn list ends so.
+-- A run in which the last attempt of this split was spent: it is one of the run's, the script has a line for each attempt of it that may be
+-- begun, and the play of the turn list ends so.
 pub record IsSpent (g : Given) (split : ℕ) : Type 0 where
   pub end : Machine
   pub play : PlaysTo g (NoneLeft split) end
+  pub is_split : split < length (rules_given g).lens
   pub doomed : IsDoomed g.script g.settings.attempts split

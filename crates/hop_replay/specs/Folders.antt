@@ -1,9 +1,18 @@
 -- The spill folders of a run, by worker, before and after it.
-use Rattle.std.specs.Prelude.{◌≡◌, ◌≢◌, ◌⊎◌, ℕ, ◌<◌, List, Some, None, is_some}
+use Rattle.std.specs.Prelude.{◌≡◌, ◌≢◌, ◌⊎◌, ℕ, ◌<◌, List, Option, Some, None, is_some, slice_index_or}
 use Rattle.std.specs.List.{slice_get}
 use Rattle.hop_base.specs.Causes.{Rose}
+use Rattle.hop_base.specs.Files.{Files}
+use Rattle.hop_base.specs.Meaning.{Meaning}
+use Rattle.hop_base.specs.Run.{RunSettings}
 use Rattle.hop_ports.specs.Views.{FolderView}
+use Rattle.hop_records.specs.Records.{lens_of}
+use Rattle.hop_shelf.specs.Names.{book_of}
+use Rattle.hop_vault.specs.Rows.{kept_end}
+use Rattle.hop_mapper.specs.Mappers.{MapperValue}
+use Rattle.hop_start.specs.Made.{folder_of}
 use Rattle.hop_actors.specs.Counting.{Counts}
+use Rattle.hop_actors.specs.Spilled.{IsSpilled, OnlySpills}
 use Rattle.hop_actors.specs.declared.fault.Fault.{Fault}
 use Rattle.hop_actors.specs.declared.fault.Fault.TheVariants as fault
 
@@ -43,6 +52,10 @@ NamesWorker workers (fault.SpentAt split) = Unit {0}
 NamesWorker workers fault.FolderFailed = ⊥
 NamesWorker workers fault.NoMemory = Unit {0}
 
+-- in each folder only files of spills were put
+abbrev pub OnlySpillsPut : Spilling → Type 0
+OnlySpillsPut s = (w : ℕ) (a b : FolderView) → slice_get s.before w ≡ Some a → slice_get s.after w ≡ Some b → OnlySpills a.held b.held
+
 -- where a run came to its end no count rose
 abbrev pub NoneFailed : Spilling → Type 0
 NoneFailed s = (w : ℕ) (a b : FolderView) → slice_get s.before w ≡ Some a → slice_get s.after w ≡ Some b → SameCounts a b
@@ -51,3 +64,12 @@ NoneFailed s = (w : ℕ) (a b : FolderView) → slice_get s.before w ≡ Some a 
 pub record Stopped (workers : ℕ) (s : Spilling) (f : Fault) : Type 0 where
   pub named : NamesWorker workers f
   pub each : (w : ℕ) (a b : FolderView) → slice_get s.before w ≡ Some a → slice_get s.after w ≡ Some b → WorkerFaults w a b f
+
+-- The folder of each of these mappers holds what it held at the start and the files of just the spills that the mapper kept, where it tells.
+abbrev pub AreSpilledBy : Meaning → List (List ℕ) → RunSettings → List (Option Files) → {V K : Type 0} → (V → FolderView) → List (MapperValue V K) → Type 0
+AreSpilledBy job records settings spills {V} {K} seen ms = (w : ℕ) (m : MapperValue V K) → slice_get ms w ≡ Some m
+    → IsSpilled job records settings.split settings.reducers settings.spill (lens_of (book_of records settings)) (λ i a. kept_end m.vault.rows i a) (slice_index_or spills w None) (seen (folder_of m)).held
+
+-- In the folder of each of these mappers only files of spills were put.
+abbrev pub HaveOnlySpills : List (Option Files) → {V K : Type 0} → (V → FolderView) → List (MapperValue V K) → Type 0
+HaveOnlySpills spills {V} {K} seen ms = (w : ℕ) (m : MapperValue V K) → slice_get ms w ≡ Some m → OnlySpills (slice_index_or spills w None) (seen (folder_of m)).held

@@ -1,3 +1,4 @@
 pub mod Driven
 pub mod Folders
 pub mod Given
+pub mod Replayed

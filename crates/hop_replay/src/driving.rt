@@ -1,7 +1,7 @@
 //! The actors of a run are driven to its end, over any ends.
 ghost use Rattle.std.specs.Prelude.{true, ◌≡◌, ◌≤◌, ◌<◌, ◌+◌, ◌-◌, ◌^◌, ℕ, List, false, [], length, map, All, IfOk, IfErr, OnOk, IsTrue, Some, None, slice_index_or};
 ghost use Rattle.std.specs.List.{range_with_len, slice_get};
-ghost use Rattle.hop_actors.specs.Spilled.{IsSpilled};
+ghost use Rattle.hop_actors.specs.Spilled.{IsSpilled, OnlySpills};
 ghost use Rattle.hop_laws.specs.Blocking.{blocking_texts};
 ghost use Rattle.hop_records.specs.Records.{lens_of};
 ghost use Rattle.hop_script.specs.TurnLines.{IsTurn, turn_count};
@@ -82,8 +82,9 @@ fn drive<
 }
 
 // What the mappers' folders hold. It does nothing: proofs learn it so.
-fn know_folders<N: RunName, E: Reach<N>, M: Store<N, E>>(mappers: &Vec<M>)
-    ensures { (w : ℕ) (m : M) → slice_get mappers.now.items w ≡ Some m → M.failed m ≡ false → IsSpilled N.job N.records N.settings.split N.settings.reducers N.settings.spill (M.mapper m).rules.lens (M.mapper m).kept (slice_index_or N.spills (M.mapper m).number None) (M.held m) }
+pub(crate) fn know_folders<N: RunName, E: Reach<N>, M: Store<N, E>>(mappers: &Vec<M>)
+    ensures spilled { (w : ℕ) (m : M) → slice_get mappers.now.items w ≡ Some m → M.failed m ≡ false → IsSpilled N.job N.records N.settings.split N.settings.reducers N.settings.spill (M.mapper m).rules.lens (M.mapper m).kept (slice_index_or N.spills (M.mapper m).number None) (M.held m) }
+    ensures only { (w : ℕ) (m : M) → slice_get mappers.now.items w ≡ Some m → OnlySpills (slice_index_or N.spills (M.mapper m).number None) (M.held m) }
 {
     for w in 0..mappers.len() {
         mappers[w].known();
@@ -109,6 +110,7 @@ fn run_end<N: RunName, E: Reach<N>, M: Store<N, E>, J: Job>(
     ensures histories { IfOk result (λ end. map (λ h. h.events) end.histories.items ≡ map (history_of (E.deeds reach.old)) (range_with_len 0 reducers)) }
     ensures parts { IfOk result (λ end. length end.texts ≡ reducers) }
     ensures spilled { (w : ℕ) (m : M) → slice_get mappers.now.items w ≡ Some m → M.failed m ≡ false → IsSpilled N.job N.records N.settings.split N.settings.reducers N.settings.spill (M.mapper m).rules.lens (M.mapper m).kept (slice_index_or N.spills (M.mapper m).number None) (M.held m) }
+    ensures only { (w : ℕ) (m : M) → slice_get mappers.now.items w ≡ Some m → OnlySpills (slice_index_or N.spills (M.mapper m).number None) (M.held m) }
     ensures texts { IfOk result (λ end. IsTrue N.tells → end.texts ≡ blocking_texts N.job N.records reducers) }
 {
     know_folders(mappers);
@@ -126,7 +128,8 @@ fn run_end<N: RunName, E: Reach<N>, M: Store<N, E>, J: Job>(
 /// backups.
 ///
 /// At Ok the run came to its end, and it is the play of the turn list. `SpentAt` comes only where that play ends so, and the script then has a line for
-/// each attempt of that split. No count of a folder's faults rises but the one that the fault tells of.
+/// each attempt of that split. No count of a folder's faults rises but the one that the fault tells of. At Ok, and also after a fault, in the spill folder
+/// of each worker only files of spills were put.
 pub fn run_to_end<
     N: RunName,
     E: Reach<N>,
@@ -166,13 +169,20 @@ pub fn run_to_end<
     ensures numbers { OnOk result ((w : ℕ) (m : M) → slice_get mappers.new.items w ≡ Some m → (M.mapper m).number ≡ w) }
     ensures well { OnOk result ((w : ℕ) (m : M) → slice_get mappers.new.items w ≡ Some m → M.failed m ≡ false) }
     ensures spilled { OnOk result ((w : ℕ) (m : M) → slice_get mappers.new.items w ≡ Some m → M.failed m ≡ false → IsSpilled N.job N.records N.settings.split N.settings.reducers N.settings.spill (M.mapper m).rules.lens (M.mapper m).kept (slice_index_or N.spills (M.mapper m).number None) (M.held m)) }
+    ensures only { (w : ℕ) (m : M) → slice_get mappers.new.items w ≡ Some m → OnlySpills (slice_index_or N.spills w None) (M.held m) }
     ensures counts { OnOk result (map M.counts mappers.new.items ≡ map M.counts mappers.old.items) }
     ensures put { OnOk result (W.counts writer.new ≡ W.counts writer.old) }
     ensures cause { IfErr result (CrewStops (map M.counts mappers.old.items) (map M.counts mappers.new.items) (W.counts writer.old) (W.counts writer.new)) }
 {
     let splits = lens.as_slice().len() as u32;
     let partitions = reducers.len() as u8;
-    drive(mappers, reducers, mergers, writer, reach, turns)?;
+    match drive(mappers, reducers, mergers, writer, reach, turns) {
+        Ok(()) => {}
+        Err(fault) => {
+            know_folders(mappers);
+            return Err(fault);
+        }
+    }
     match run_end(alloc, job, mappers, splits, partitions, reach) {
         Ok(end) => Ok(end),
         Err(NoMemory) => Err(Fault::NoMemory),

@@ -3,7 +3,10 @@
 
 pub mod driving;
 pub mod folder_laws;
+pub mod replaying;
 pub mod script_laws;
 pub mod size_laws;
+pub mod unmarked;
 
 pub use driving::{RunEnd, run_to_end};
+pub use replaying::replay;

@@ -1,24 +1,23 @@
-use Rattle.std.proofs.Common.{rules, ◌≡◌, ◌<◌, ℕ, Bool, true, List, length, map, arith, inl, inr, refl, sym, ap, ◌∙◌, subst, Err}
+use Rattle.std.proofs.Common.{◌≡◌, ◌<◌, ℕ, Bool, true, List, length, map, arith, inl, inr, refl, sym, ap, ◌∙◌, subst}
 use Rattle.std.proofs.lemmas.List.{length-map}
 use Rattle.hop_event.specs.declared.event.Event.{Event}
 use Rattle.hop_event.specs.Legal.{AllWon}
 use Rattle.hop_laws.specs.Blocking.{blocking_texts}
-use Rattle.hop_actors.specs.declared.fault.Fault.{Fault}
-use Rattle.hop_actors.specs.declared.fault.Fault.TheVariants as fault
 use Rattle.hop_machine.specs.step.Steps.{Setup}
 use Rattle.hop_machine.specs.home.Said.{history_of}
-use Rattle.hop_machine.specs.play.Play.{World, Opening}
+use Rattle.hop_machine.specs.play.Play.{World, Opening, Over}
 use Rattle.hop_machine.specs.run.AllHome.{RanToItsEnd}
 use Rattle.hop_machine.proofs.run.Starting.{start_at_home}
-use Rattle.hop_machine.proofs.run.WholeRun.{ends_settled}
+use Rattle.hop_machine.proofs.run.WholeRun.{ends_settled, run_went}
+use Rattle.hop_ending.proofs.Numbers.{start_numbers}
 use Rattle.hop_settle.specs.Crews.{actors_of, world_of}
 use Rattle.hop_settle.specs.Playing.{orders_of}
 use Rattle.hop_settle.proofs.BegunLaws.{counted-begun}
 use Rattle.hop_settle.proofs.Lists.{map-at}
 use Rattle.hop_replay.specs.Given.{Given}
-use Rattle.hop_replay.specs.Driven.{IsSpent}
+use Rattle.hop_replay.proofs.ByPlace.{only-by-place}
 use Rattle.hop_replay.proofs.Drove.{DroveIn, drove-in, drove-so, spent-in}
-use Rattle.hop_replay.proofs.GoingOn.{Ended, err-so}
+use Rattle.hop_replay.proofs.GoingOn.{Ended}
 use Rattle.hop_replay.proofs.Stopping.{none-taken, spent-so}
 use Rattle.hop_replay.proofs.Whole.{free-then, all-won, are-histories, all-alone}
 use Rattle.hop_replay.proofs.driving.run_to_end.Goals as goal
@@ -33,18 +32,23 @@ drive-requires-clause-turns g c =
     let E = g.E.Reach in
     none-taken g.N.RunName.settings.backup (actors_of (map g.M.Store.mapper c.args.mappers.now.items) (map g.D.Taker.reducer c.args.reducers.now.items) (g.W.SnapshotWriter.writer c.args.writer.now)) (E.deeds c.args.reach.now) c.requires.start
 
-pub returns-in_err-drive-clause-spent : goal.returns-in_err-drive-clause-spent
-returns-in_err-drive-clause-spent g c =
+pub returns-in-Err-clause-spent : goal.returns-in-Err-clause-spent
+returns-in-Err-clause-spent g c = λ split e.
     let E = g.E.Reach in let N = g.N.RunName in let k = g.M.Store.mapper in let f = g.D.Taker.reducer in let z = g.W.SnapshotWriter.writer in let n = c.drive in
     let A : World = world_of (map k c.args.mappers.now.items) (map f c.args.reducers.now.items) (z c.args.writer.now) (E.deeds c.args.reach.now) in
     let D : World = world_of (map k n.new.mappers.items) (map f n.new.reducers.items) (z n.new.writer) (E.deeds n.new.reach) in
     let G : Given = record { job = N.job; records = N.records; script = N.script; settings = N.settings; turns = c.args.turns.now } in
-    let failed : Fault = c.in_err-drive.field-0.0 in
-    let is : Err failed ≡ c.from_residual.result = search rules in
     let list = orders_of c.args.turns.now in
-    let ended : Ended true (Opening 0 list, A) D failed = subst (λ (b : Bool). Ended b (Opening 0 list, A) D failed) c.requires.exact c.in_err-drive.ensures.stopped in
-    err-so c.from_residual.result failed (λ (f : Fault). (split : ℕ) → f ≡ fault.SpentAt split → IsSpent G split) is
-    (λ split e. spent-in G A.deeds.setup (g.met.E.Reach.of_run c.args.reach.now) D split (spent-so N.settings.backup list A D failed split c.requires.start.set c.requires.new c.requires.start ended e))
+    let ended : Ended true (Opening 0 list, A) D c.in-Err.fault = subst (λ (b : Bool). Ended b (Opening 0 list, A) D c.in-Err.fault) c.requires.exact c.in-Err.ensures.stopped in
+    spent-in G A.deeds.setup (g.met.E.Reach.of_run c.args.reach.now) D split (spent-so N.settings.backup list A D c.in-Err.fault split c.requires.start.set c.requires.new c.requires.start ended e)
+
+pub returns-in-Err-clause-only : goal.returns-in-Err-clause-only
+returns-in-Err-clause-only g c =
+    let E = g.E.Reach in let N = g.N.RunName in let k = g.M.Store.mapper in let f = g.D.Taker.reducer in let z = g.W.SnapshotWriter.writer in let n = c.drive in
+    let A : World = world_of (map k c.args.mappers.now.items) (map f c.args.reducers.now.items) (z c.args.writer.now) (E.deeds c.args.reach.now) in
+    let D : World = world_of (map k n.new.mappers.items) (map f n.new.reducers.items) (z n.new.writer) (E.deeds n.new.reach) in
+    let s = c.in-Err.ensures.stopped in
+    only-by-place k g.M.Store.held N.spills n.new.mappers.items (start_numbers E.exact N.settings.backup (Opening 0 (orders_of c.args.turns.now)) s.0 A D c.requires.start s.1) c.know_folders.ensures.only
 
 pub run_end-requires-clause-free : goal.run_end-requires-clause-free
 run_end-requires-clause-free g c = λ p l.
@@ -52,11 +56,11 @@ run_end-requires-clause-free g c = λ p l.
     let A : World = world_of (map k c.args.mappers.now.items) (map f c.args.reducers.now.items) (z c.args.writer.now) (E.deeds c.args.reach.now) in
     let D : World = world_of (map k n.new.mappers.items) (map f n.new.reducers.items) (z n.new.writer) (E.deeds n.new.reach) in
     let list = orders_of c.args.turns.now in
-    let ran : RanToItsEnd true (Opening 0 list) A D = subst (λ (b : Bool). RanToItsEnd b (Opening 0 list) A D) c.requires.exact c.in_ok-drive.ensures.ran in
+    let ran : RanToItsEnd true (Opening 0 list) A D = subst (λ (b : Bool). RanToItsEnd b (Opening 0 list) A D) c.requires.exact c.in-Ok.ensures.ran in
     let many = c.len-partitions.ensures in let before = c.requires.start.reducers in let mapped = length-map c.args.reducers.now.items f in
     let sa = ap (λ (s : Setup). s.reducers) (g.met.E.Reach.of_run c.args.reach.now) in let sd = ap (λ (s : Setup). s.reducers) (g.met.E.Reach.of_run n.new.reach) in
     let inside : p < D.deeds.setup.reducers = omega (arith, l, many, before, mapped, sa, sd) in
-    free-then (Opening 0 list) A D ran p inside (c.in_ok-drive.ensures.locks p inside)
+    free-then (Opening 0 list) A D ran p inside (c.in-Ok.ensures.locks p inside)
 
 pub run_end-requires-clause-won : goal.run_end-requires-clause-won
 run_end-requires-clause-won g c = λ p l.
@@ -64,44 +68,60 @@ run_end-requires-clause-won g c = λ p l.
     let A : World = world_of (map k c.args.mappers.now.items) (map f c.args.reducers.now.items) (z c.args.writer.now) (E.deeds c.args.reach.now) in
     let D : World = world_of (map k n.new.mappers.items) (map f n.new.reducers.items) (z n.new.writer) (E.deeds n.new.reach) in
     let list = orders_of c.args.turns.now in
-    let ran : RanToItsEnd true (Opening 0 list) A D = subst (λ (b : Bool). RanToItsEnd b (Opening 0 list) A D) c.requires.exact c.in_ok-drive.ensures.ran in
+    let ran : RanToItsEnd true (Opening 0 list) A D = subst (λ (b : Bool). RanToItsEnd b (Opening 0 list) A D) c.requires.exact c.in-Ok.ensures.ran in
     let many = c.len-partitions.ensures in let before = c.requires.start.reducers in let mapped = length-map c.args.reducers.now.items f in
     let sa = ap (λ (s : Setup). s.reducers) (g.met.E.Reach.of_run c.args.reach.now) in let sd = ap (λ (s : Setup). s.reducers) (g.met.E.Reach.of_run n.new.reach) in
     let inside : p < D.deeds.setup.reducers = omega (arith, l, many, before, mapped, sa, sd) in
     subst (λ (lens : List ℕ). AllWon lens (history_of D.deeds p)) (ap (λ (s : Setup). s.lens) (g.met.E.Reach.of_run n.new.reach)) (all-won (Opening 0 list) A D ran p inside)
 
-pub returns-in-Ok-clause-drove : goal.returns-in-Ok-clause-drove
-returns-in-Ok-clause-drove g c =
+pub returns-in-Ok-run_end-clause-drove : goal.returns-in-Ok-run_end-clause-drove
+returns-in-Ok-run_end-clause-drove g c =
     let E = g.E.Reach in let N = g.N.RunName in let k = g.M.Store.mapper in let f = g.D.Taker.reducer in let z = g.W.SnapshotWriter.writer in let n = c.drive in
     let A : World = world_of (map k c.args.mappers.now.items) (map f c.args.reducers.now.items) (z c.args.writer.now) (E.deeds c.args.reach.now) in
     let D : World = world_of (map k n.new.mappers.items) (map f n.new.reducers.items) (z n.new.writer) (E.deeds n.new.reach) in
     let G : Given = record { job = N.job; records = N.records; script = N.script; settings = N.settings; turns = c.args.turns.now } in
     let list = orders_of c.args.turns.now in
-    let ran : RanToItsEnd true (Opening 0 list) A D = subst (λ (b : Bool). RanToItsEnd b (Opening 0 list) A D) c.requires.exact c.in_ok-drive.ensures.ran in
+    let ran : RanToItsEnd true (Opening 0 list) A D = subst (λ (b : Bool). RanToItsEnd b (Opening 0 list) A D) c.requires.exact c.in-Ok.ensures.ran in
     let many = c.len-partitions.ensures in let before = c.requires.start.reducers in let mapped = length-map c.args.reducers.now.items f in
     let oa = g.met.E.Reach.of_run c.args.reach.now in let od = g.met.E.Reach.of_run n.new.reach in
     let sa = ap (λ (s : Setup). s.reducers) oa in let sd = ap (λ (s : Setup). s.reducers) od in
     let all : c.len-partitions.result ≡ N.settings.reducers = omega (arith, many, before, mapped, sa) in
     let here : c.len-partitions.result ≡ D.deeds.setup.reducers = omega (arith, all, sd) in
-    let begun : List ℕ = c.in-Ok.end.begun.items in
-    let hs : List (List Event) = map (λ (h : _). h.events) c.in-Ok.end.histories.items in
+    let begun : List ℕ = c.in-Ok-run_end.end.begun.items in
+    let hs : List (List Event) = map (λ (h : _). h.events) c.in-Ok-run_end.end.histories.items in
     let counted = counted-begun D.actors D.deeds.setup (ends_settled true (Opening 0 list) A D ran).ends.home.workers begun
-    (c.in-Ok.ensures.count ∙ ap (λ (l : List ℕ). length l) (c.as_slice.ensures.value ∙ c.requires.lens ∙ sym (ap (λ (s : Setup). s.lens) od))) c.in-Ok.ensures.begun in
-    let drove = drove-in N.settings.backup list A D c.requires.start.set c.requires.new (od ∙ sym oa) ran (all-alone k n.new.mappers.items c.requires.alone) begun counted hs (are-histories D.deeds c.len-partitions.result hs here c.in-Ok.ensures.histories) in
-    drove-so G N.tells D begun hs c.in-Ok.end.texts (subst (λ (s : Setup). DroveIn s N.settings.backup list D begun hs) od drove)
-    (c.in-Ok.ensures.parts ∙ all) (λ t. c.in-Ok.ensures.texts t ∙ ap (blocking_texts N.job N.records) all)
+    (c.in-Ok-run_end.ensures.count ∙ ap (λ (l : List ℕ). length l) (c.as_slice.ensures.value ∙ c.requires.lens ∙ sym (ap (λ (s : Setup). s.lens) od))) c.in-Ok-run_end.ensures.begun in
+    let drove = drove-in N.settings.backup list A D c.requires.start.set c.requires.new (od ∙ sym oa) ran (all-alone k n.new.mappers.items c.requires.alone) begun counted hs (are-histories D.deeds c.len-partitions.result hs here c.in-Ok-run_end.ensures.histories) in
+    drove-so G N.tells D begun hs c.in-Ok-run_end.end.texts (subst (λ (s : Setup). DroveIn s N.settings.backup list D begun hs) od drove)
+    (c.in-Ok-run_end.ensures.parts ∙ all) (λ t. c.in-Ok-run_end.ensures.texts t ∙ ap (blocking_texts N.job N.records) all)
 
-pub returns-in-Ok-clause-numbers : goal.returns-in-Ok-clause-numbers
-returns-in-Ok-clause-numbers g c = λ w m e.
+pub returns-in-Ok-run_end-clause-numbers : goal.returns-in-Ok-run_end-clause-numbers
+returns-in-Ok-run_end-clause-numbers g c = λ w m e.
     let E = g.E.Reach in let k = g.M.Store.mapper in let f = g.D.Taker.reducer in let z = g.W.SnapshotWriter.writer in let n = c.drive in
     let A : World = world_of (map k c.args.mappers.now.items) (map f c.args.reducers.now.items) (z c.args.writer.now) (E.deeds c.args.reach.now) in
     let D : World = world_of (map k n.new.mappers.items) (map f n.new.reducers.items) (z n.new.writer) (E.deeds n.new.reach) in
     let list = orders_of c.args.turns.now in
-    let ran : RanToItsEnd true (Opening 0 list) A D = subst (λ (b : Bool). RanToItsEnd b (Opening 0 list) A D) c.requires.exact c.in_ok-drive.ensures.ran in
+    let ran : RanToItsEnd true (Opening 0 list) A D = subst (λ (b : Bool). RanToItsEnd b (Opening 0 list) A D) c.requires.exact c.in-Ok.ensures.ran in
     ((ends_settled true (Opening 0 list) A D ran).ends.home.mapper w (k m) (map-at k n.new.mappers.items w m e)).number
 
-pub returns-in-Ok-clause-well : goal.returns-in-Ok-clause-well
-returns-in-Ok-clause-well g c = λ w m e. (c.in_ok-drive.ensures.well w m e).0
+pub returns-in-Ok-run_end-clause-well : goal.returns-in-Ok-run_end-clause-well
+returns-in-Ok-run_end-clause-well g c = λ w m e. (c.in-Ok.ensures.well w m e).0
 
-pub returns-in-Err-clause-cause : goal.returns-in-Err-clause-cause
-returns-in-Err-clause-cause g c = inl (inr (refl, c.in_ok-drive.ensures.counts), c.in_ok-drive.ensures.put)
+pub returns-in-Err-run_end-clause-cause : goal.returns-in-Err-run_end-clause-cause
+returns-in-Err-run_end-clause-cause g c = inl (inr (refl, c.in-Ok.ensures.counts), c.in-Ok.ensures.put)
+
+pub returns-in-Ok-run_end-clause-only : goal.returns-in-Ok-run_end-clause-only
+returns-in-Ok-run_end-clause-only g c =
+    let E = g.E.Reach in let N = g.N.RunName in let k = g.M.Store.mapper in let f = g.D.Taker.reducer in let z = g.W.SnapshotWriter.writer in let n = c.drive in
+    let A : World = world_of (map k c.args.mappers.now.items) (map f c.args.reducers.now.items) (z c.args.writer.now) (E.deeds c.args.reach.now) in
+    let D : World = world_of (map k n.new.mappers.items) (map f n.new.reducers.items) (z n.new.writer) (E.deeds n.new.reach) in
+    let start = Opening 0 (orders_of c.args.turns.now) in
+    only-by-place k g.M.Store.held N.spills n.new.mappers.items (start_numbers E.exact N.settings.backup start Over A D c.requires.start (run_went E.exact start A D c.in-Ok.ensures.ran)) c.run_end.ensures.only
+
+pub returns-in-Err-run_end-clause-only : goal.returns-in-Err-run_end-clause-only
+returns-in-Err-run_end-clause-only g c =
+    let E = g.E.Reach in let N = g.N.RunName in let k = g.M.Store.mapper in let f = g.D.Taker.reducer in let z = g.W.SnapshotWriter.writer in let n = c.drive in
+    let A : World = world_of (map k c.args.mappers.now.items) (map f c.args.reducers.now.items) (z c.args.writer.now) (E.deeds c.args.reach.now) in
+    let D : World = world_of (map k n.new.mappers.items) (map f n.new.reducers.items) (z n.new.writer) (E.deeds n.new.reach) in
+    let start = Opening 0 (orders_of c.args.turns.now) in
+    only-by-place k g.M.Store.held N.spills n.new.mappers.items (start_numbers E.exact N.settings.backup start Over A D c.requires.start (run_went E.exact start A D c.in-Ok.ensures.ran)) c.run_end.ensures.only
