@@ -1,18 +1,29 @@
 -- What follows from the contract of the top call alone.
-use Rattle.std.proofs.Common.{◌≡◌, ℕ, ◌≤◌, Bool, true, false, if◌then◌else◌, List, [], ◌∷◌, ◌⊎◌, inl, inr, Option, None, Some, length, refl, sym, ap, ◌∙◌, subst, arith}
-use Rattle.std.proofs.lemmas.Bool.{false≢true}
-use Rattle.std.specs.Option.{IfSome, MatchOption}
-use Rattle.std.specs.List.{AllByRecursion}
+use Rattle.std.proofs.Common.{◌≡◌, ℕ, zero, suc, ◌≤◌, ◌<◌, ◌+◌, Bool, true, false, if◌then◌else◌, List, [], ◌∷◌, ◌++◌, ◌⊎◌, inl, inr, ⊎_elim, Option, None, Some, length, get_or, slice_index, is_some, is_none, refl, sym, ap, ◌∙◌, subst, arith}
+use Rattle.std.specs.Prelude.{IsSome, find}
+use Rattle.std.specs.Option.{IfSome, MatchOption, option_map}
+use Rattle.std.specs.List.{AllByRecursion, slice_get, range_with_len}
 use Rattle.std.specs.FinMap as map
+use Rattle.std.proofs.lemmas.Option.{same_Some, slice_get-get_or}
 use Rattle.hop_base.specs.Causes.{Rose}
 use Rattle.hop_base.specs.Files.{Files}
-use Rattle.hop_ports.specs.Views.{FolderView, SinkView}
+use Rattle.hop_base.specs.Run.{ScriptLines, fails_at}
+use Rattle.hop_event.specs.Failing.{IsDoomed, tries}
+use Rattle.hop_ending.specs.Doomed.{IsDoomedSplit}
+use Rattle.hop_ports.specs.Views.{FolderView, SinkView, appended}
 use Rattle.hop_ports.specs.Causes.{IsLonger}
+use Rattle.hop_replay.specs.Driven.{IsSpent}
+use Rattle.hop_replay.specs.Folders.{Spilling}
+use Rattle.hop_replay.specs.Given.{Given, setup_given}
 use Rattle.hop_words.specs.Options.{Asked, AskedOptions, block, run, replay}
+use Rattle.hop_top.specs.Complete.{SomeDoomed}
+use Rattle.hop_top.specs.Puts.{Work, with_files}
 use Rattle.hop_top.specs.Reading.{AreReadable, FirstUnread, IsAbsent, IsLong, IsReadable, Wanted, bytes_of, reads_of}
-use Rattle.hop_top.specs.Spilling.{Spilling}
-use Rattle.hop_top.specs.Work.{Accepted, IsRun, Spends, is_served, refusal_of, served}
+use Rattle.hop_top.specs.Runs.{RunWorks}
+use Rattle.hop_top.specs.Spilling.{CommandLeaves, RunLeaves, SpillsLeft, all_tell}
+use Rattle.hop_top.specs.Work.{Accepted, CommandSpends, CommandWorks, IsRun, Spends, Works, refusal_of, run_given}
 use Rattle.hop_top.specs.Meets.{MeetsOptions, MeetsNothing}
+use Rattle.hop_top.proofs.SpillLaws.{tells-at}
 use Rattle.hop_top.specs.declared.outcome.Outcome.{Outcome}
 use Rattle.hop_top.specs.declared.outcome.Outcome.TheVariants as outcome
 use Rattle.hop_top.specs.declared.outcome.Refusal.TheVariants as refusal
@@ -105,25 +116,120 @@ module _ (old new : FolderView) (out_old out_new : SinkView) (s : Spilling) (opt
   complete (outcome.SpillCollides worker at place) meets accepted goes gets puts faults = absurd (goes.uncollided worker at place refl meets.runs)
   complete outcome.SayFailed meets accepted goes gets puts faults = absurd (faults meets.0)
 
--- a command that is served makes no spills
-no_run : (command : Asked) → is_served command ≡ true → IsRun command → ⊥
-no_run (block job input) served runs = runs
-no_run (run job input) served runs = absurd (false≢true served)
-no_run (replay job input) served runs = absurd (false≢true served)
+-- # What stands in a run's way
 
--- so what is served goes through
-served_at : (b : Bool) (options o : AskedOptions) → (if b then Some options else None) ≡ Some o → (b ≡ true) × (options ≡ o)
-served_at true options o e = (refl, cc)
-served_at false options o e = cc
+-- where some split is doomed, no number of tries is enough
+none-found : (p : ℕ → Bool) (xs : List ℕ) → ((k : ℕ) (x : ℕ) → slice_get xs k ≡ Some x → p x ≡ false) → find p xs ≡ None
+none-found p [] h = refl
+none-found p (x ∷ xs) h = of (p x) (h zero x refl) (none-found p xs (λ k. h (suc k)))
+  where
+    of : (t : Bool) → t ≡ false → find p xs ≡ None → (if t then Some x else find p xs) ≡ None
+    of false e rest = rest
+    of true e rest = cc
 
-pub served_goes : (asked : Option AskedOptions) (options : AskedOptions) (files : Files) (answer : Outcome) → served asked ≡ Some options → GoesThrough options files answer
-served_goes None options files answer e = cc
-served_goes (Some all) options files answer e =
-    let at = served_at (is_served all.command) all options e in
-    let none : IsRun options.command → ⊥ = no_run options.command (ap (λ (o : AskedOptions). is_served o.command) (sym at.1) ∙ at.0) in
-    record {
-      unspent = λ split is runs spends. none runs;
-      unfailed = λ w is runs. none runs;
-      undamaged = λ w at kept found is runs. none runs;
-      uncollided = λ w at place is runs. none runs;
+no-tries : (script : ScriptLines) (attempts split : ℕ) → IsDoomed script attempts split → tries script attempts split ≡ None
+no-tries script attempts split doomed = ap (option_map (λ a. a + 1)) (none-found (λ a. is_none (fails_at script split a)) (range_with_len 0 attempts)
+    (λ k x e. of (fails_at script split x) (doomed x (let l = in-range attempts 0 k x e in omega (arith, l)))))
+  where
+    of : (o : Option ℕ) → IsSome o → is_none o ≡ false
+    of None h = cc
+    of (Some a) h = refl
+
+    in-range : (n from k x : ℕ) → slice_get (range_with_len from n) k ≡ Some x → x < from + n
+    in-range zero from k x e = cc
+    in-range (suc n) from zero x e = let same : from ≡ x = same_Some from x e in omega (arith, same)
+    in-range (suc n) from (suc k) x e = let l = in-range n (from + 1) k x e in omega (arith, l)
+
+tried : (o : Option ℕ) (n : ℕ) → o ≡ None → o ≡ Some n → ⊥
+tried o n e f = cc
+
+module _ (options : AskedOptions) (s : Spilling) (answer : Outcome) (left : RunLeaves options.settings.workers s answer) (told : all_tell options.settings.workers s.before ≡ true)
+    (quiet : (w : ℕ) (a b : FolderView) → slice_get s.before w ≡ Some a → slice_get s.after w ≡ Some b → (Rose a.gets b.gets → ⊥) × (Rose a.puts b.puts → ⊥)) where
+  -- the folder of a worker, before and after
+  abbrev At : ℕ → Type 0
+  At w = (a : FolderView) × (b : FolderView) × (slice_get s.before w ≡ Some a) × (slice_get s.after w ≡ Some b)
+
+  at : (w : ℕ) → w < options.settings.workers → At w
+  at w l =
+      let none : FolderView = record { held = None; gets = 0; puts = 0 } in let few = left.few in let count = left.count in (
+        get_or s.before w none,
+        get_or s.after w none,
+        slice_get-get_or s.before w none (omega (arith, l, few)),
+        slice_get-get_or s.after w none (omega (arith, l, few, count)),
+      )
+
+  silent : (o : Option Files) → is_some o ≡ true → o ≡ None → ⊥
+  silent None t e = cc
+  silent (Some files) t e = cc
+
+  no-fail : (w : ℕ) → answer ≡ outcome.SpillFailed w → ⊥
+  no-fail w is =
+      let left' = subst (RunLeaves options.settings.workers s) is left in let f = at w left'.named in
+      let rose = (left'.own w f.0 f.1 left'.named f.2 f.3).answers.0 refl in
+      let q = quiet w f.0 f.1 f.2 f.3 in
+      ⊎_elim (λ (h : (f.1.gets ≡ f.0.gets) × Rose f.0.puts f.1.puts). q.1 h.1) (λ (h : Rose f.0.gets f.1.gets × (f.1.puts ≡ f.0.puts)). q.0 h.0) rose
+
+  no-damage : (w : ℕ) (part : _) (was found : _) → answer ≡ outcome.SpillDamaged w part was found → ⊥
+  no-damage w part was found is =
+      let left' = subst (RunLeaves options.settings.workers s) is left in let f = at w left'.named in
+      silent f.0.held (tells-at options.settings.workers s.before w f.0 told left'.named f.2) ((left'.own w f.0 f.1 left'.named f.2 f.3).answers.1 refl).0
+
+  no-collision : (w : ℕ) (part : _) (place : ℕ) → answer ≡ outcome.SpillCollides w part place → ⊥
+  no-collision w part place is =
+      let left' = subst (RunLeaves options.settings.workers s) is left in let f = at w left'.named in
+      silent f.0.held (tells-at options.settings.workers s.before w f.0 told left'.named f.2) ((left'.own w f.0 f.1 left'.named f.2 f.3).answers.1 refl)
+
+-- a command whose spill folders tell goes through, where no split is doomed and no count rose
+pub goes : (options : AskedOptions) (files : Files) (s : Spilling) (answer : Outcome) → SpillsLeft (Some options) s answer → all_tell options.settings.workers s.before ≡ true
+    → ((w : ℕ) (a b : FolderView) → slice_get s.before w ≡ Some a → slice_get s.after w ≡ Some b → (Rose a.gets b.gets → ⊥) × (Rose a.puts b.puts → ⊥))
+    → (SomeDoomed options.command options files → ⊥) → GoesThrough options files answer
+goes options files s answer left told quiet undoomed = of options.command refl
+  where
+    spent : (g : Given) (split : ℕ) → IsSpent g split → IsDoomedSplit (setup_given g) split
+    spent g split h = record { is_split = h.is_split; doomed = h.doomed }
+
+    run-so : RunLeaves options.settings.workers s answer → ((split : ℕ) → Spends options files split → SomeDoomed options.command options files) → GoesThrough options files answer
+    run-so leaves dooms = record {
+      unspent = λ split is runs spends. undoomed (dooms split spends);
+      unfailed = λ w is runs. no-fail options s answer leaves told quiet w is;
+      undamaged = λ w part was found is runs. no-damage options s answer leaves told quiet w part was found is;
+      uncollided = λ w part place is runs. no-collision options s answer leaves told quiet w part place is;
     }
+
+    of : (c : Asked) → options.command ≡ c → GoesThrough options files answer
+    of (block job input) is = let none : IsRun options.command → ⊥ = λ h. subst IsRun is h in
+        record { unspent = λ split e runs spends. none runs; unfailed = λ w e runs. none runs; undamaged = λ w part was found e runs. none runs; uncollided = λ w part place e runs. none runs }
+    of (run job input) is = run-so (subst (λ (c : Asked). CommandLeaves c options.settings.workers s answer) is left)
+        (λ split h. subst (λ (c : Asked). SomeDoomed c options files) (sym is) (split, spent (run_given options job input files) split (subst (λ (c : Asked). CommandSpends c options files split) is h)))
+    of (replay job input) is = run-so (subst (λ (c : Asked). CommandLeaves c options.settings.workers s answer) is left)
+        (λ split h. subst (λ (c : Asked). SomeDoomed c options files) (sym is) (split, spent (run_given options job input files) split (subst (λ (c : Asked). CommandSpends c options files split) is h)))
+
+-- # What is never done
+
+-- a run with a doomed split has no work
+no-work : (g : Given) (s : Spilling) (work : Work) (split : ℕ) → IsDoomedSplit (setup_given g) split → RunWorks g s work → ⊥
+no-work g s work split doomed works =
+    let t = works.0 in
+    tried (tries g.script g.settings.attempts split) (slice_index t.begun split) (no-tries g.script g.settings.attempts split doomed.doomed) (works.2.ran.tries split doomed.is_split)
+
+no-works : (options : AskedOptions) (s : Spilling) (files : Files) (work : Work) → SomeDoomed options.command options files → Works options s files work → ⊥
+no-works options s files work doomed works = of options.command refl
+  where
+    of : (c : Asked) → options.command ≡ c → ⊥
+    of (block job input) is = subst (λ (c : Asked). SomeDoomed c options files) is doomed
+    of (run job input) is = let d = subst (λ (c : Asked). SomeDoomed c options files) is doomed in
+        no-work (run_given options job input files) s work d.0 d.1 (subst (λ (c : Asked). CommandWorks c options s files work) is works)
+    of (replay job input) is = let d = subst (λ (c : Asked). SomeDoomed c options files) is doomed in
+        no-work (run_given options job input files) s work d.0 d.1 (subst (λ (c : Asked). CommandWorks c options s files work) is works)
+
+finished-at : (held : Option Files) (files : Files) (options : AskedOptions) (s : Spilling) (P : Work → Type 0) → held ≡ Some files
+    → IfSome held (λ fs. Accepted options fs × ((work : Work) × Works options s fs work × P work)) → (work : Work) × Works options s files work
+finished-at None files options s P e h = cc
+finished-at (Some fs) files options s P e h = let same : fs ≡ files = same_Some fs files e in (h.1.0, subst (λ (f : Files). Works options s f h.1.0) same h.1.1)
+
+pub never-done : (old new : FolderView) (out_old out_new : SinkView) (s : Spilling) (options : AskedOptions) (files : Files) (answer : Outcome) → old.held ≡ Some files
+    → MeetsOptions old new out_old out_new s options answer → SomeDoomed options.command options files → answer ≡ outcome.Done → ⊥
+never-done old new out_old out_new s options files answer held meets doomed is =
+    let finished = subst (MeetsOptions old new out_old out_new s options) is meets in
+    let w = finished-at old.held files options s (λ work. (new.held ≡ with_files old.held (work.early ++ work.files)) × (out_new.taken ≡ appended out_old.taken work.summary)) held finished in
+    no-works options s files w.0 doomed w.1

@@ -1,5 +1,9 @@
 pub mod CompleteLaws
+pub mod FinishLaws
 pub mod MeetsLemmas
 pub mod PartLaws
+pub mod PlainLaws
 pub mod PutsLemmas
 pub mod RefusalLaws
+pub mod RunLaws
+pub mod SpillLaws

@@ -11,7 +11,7 @@ use Rattle.hop_records.specs.Records.{records_of, first_long}
 use Rattle.hop_words.specs.Options.{Asked, AskedOptions, block}
 use Rattle.hop_top.specs.Plans.{long_refusal}
 use Rattle.hop_top.specs.Reading.{IsReadable, bytes_of, command_reads, input_named}
-use Rattle.hop_top.specs.Spilling.{Spilling}
+use Rattle.hop_replay.specs.Folders.{Spilling}
 use Rattle.hop_top.specs.Work.{Accepted, CommandWorks, Works, block_summary, block_work, command_refusal}
 use Rattle.hop_top.specs.Puts.{HandsOut, HandsFirst, HandsUnsaid, Puts, Work, part_files, with_files}
 use Rattle.hop_top.specs.Meets.{MeetsOptions, Does, Stopped, Unsaid}

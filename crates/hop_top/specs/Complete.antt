@@ -3,26 +3,21 @@ use Rattle.std.specs.Prelude.{◌≡◌, ◌⊎◌, ℕ, ◌<◌, IsTrue, Option
 use Rattle.std.specs.List.{slice_get}
 use Rattle.hop_base.specs.Causes.{Rose}
 use Rattle.hop_base.specs.Files.{Files}
-use Rattle.hop_event.specs.Failing.{IsDoomed}
 use Rattle.hop_ports.specs.Views.{FolderView, SinkView}
 use Rattle.hop_words.specs.Options.{Asked, AskedOptions, block, run, replay}
-use Rattle.hop_top.specs.Plans.{Given}
-use Rattle.hop_top.specs.Runs.{rules_given}
-use Rattle.hop_top.specs.Spilling.{Spilling, all_tell}
+use Rattle.hop_ending.specs.Doomed.{IsDoomedSplit}
+use Rattle.hop_replay.specs.Given.{setup_given}
+use Rattle.hop_replay.specs.Folders.{Spilling}
+use Rattle.hop_top.specs.Spilling.{all_tell}
 use Rattle.hop_top.specs.Work.{Accepted, run_given}
 use Rattle.hop_top.specs.declared.outcome.Outcome.{Outcome}
 use Rattle.hop_top.specs.declared.outcome.Outcome.TheVariants as outcome
 
--- each attempt of the split that may be begun fails by the script
-pub record IsDoomedIn (g : Given) (split : ℕ) : Type 0 where
-  pub is_split : split < length (rules_given g).lens
-  pub doomed : IsDoomed g.script g.settings.attempts split
-
--- some split of a run is so
+-- each attempt of some split of a run that may be begun fails by the script
 abbrev pub SomeDoomed : Asked → AskedOptions → Files → Type 0
 SomeDoomed (block job input) options files = ⊥
-SomeDoomed (run job input) options files = (split : ℕ) × IsDoomedIn (run_given options job input files) split
-SomeDoomed (replay job input) options files = (split : ℕ) × IsDoomedIn (run_given options job input files) split
+SomeDoomed (run job input) options files = (split : ℕ) × IsDoomedSplit (setup_given (run_given options job input files)) split
+SomeDoomed (replay job input) options files = (split : ℕ) × IsDoomedSplit (setup_given (run_given options job input files)) split
 
 module _ (old new : FolderView) (out_old out_new : SinkView) (s : Spilling) where
   -- no count of faults rose

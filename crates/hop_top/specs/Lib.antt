@@ -1,3 +1,4 @@
+pub mod Ends
 pub mod Complete
 pub mod Faults
 pub mod Meets

@@ -8,7 +8,7 @@ use Rattle.hop_ports.specs.Causes.{TookPrefix}
 use Rattle.hop_words.specs.Options.{AskedOptions}
 use Rattle.hop_top.specs.Puts.{Puts, Work, with_files}
 use Rattle.hop_top.specs.Reading.{AreReadable, IsAbsent, IsLong, Unread, reads_of}
-use Rattle.hop_top.specs.Spilling.{Spilling}
+use Rattle.hop_replay.specs.Folders.{Spilling}
 use Rattle.hop_top.specs.Work.{Accepted, IsRun, MayPutEarly, Spends, Works, refusal_of}
 use Rattle.hop_top.specs.declared.outcome.Refusal.TheVariants as refusal
 use Rattle.hop_top.specs.declared.outcome.Outcome.{Outcome}

@@ -2,25 +2,18 @@
 use Rattle.std.specs.Prelude.{◌≡◌, ℕ, nat_lt, if◌then◌else◌, List, Option, None, Some, option_map}
 use Rattle.std.specs.Option.{option_or}
 use Rattle.hop_base.specs.Meaning.{Meaning}
-use Rattle.hop_base.specs.Run.{RunSettings, ScriptLines}
+use Rattle.hop_base.specs.Run.{RunSettings}
 use Rattle.hop_records.specs.Records.{BookValue, first_long, records_of, spill_count, splits_of}
 use Rattle.hop_script.specs.Script.{first_bad, script_of}
 use Rattle.hop_script.specs.TurnLines.{first_bad_turn, turns_of}
 use Rattle.hop_script.specs.declared.turn.Actors.{Actors}
-use Rattle.hop_script.specs.declared.turn.Turn.{Turn}
+use Rattle.hop_replay.specs.Given.{Given}
 use Rattle.hop_top.specs.Reading.{RunTexts}
+use Rattle.hop_top.specs.declared.check.Plan.{Plan}
 use Rattle.hop_top.specs.declared.outcome.File.TheVariants as which
 use Rattle.hop_top.specs.declared.outcome.Refusal.TheVariants as refusal
 use Rattle.hop_top.specs.declared.outcome.Outcome.{Outcome}
 use Rattle.hop_top.specs.declared.outcome.Outcome.TheVariants as outcome
-
--- the job, the records, the script lines, the settings and the turn list of a run
-pub record Given : Type 0 where
-  pub job : Meaning
-  pub records : List (List ℕ)
-  pub script : ScriptLines
-  pub settings : RunSettings
-  pub turns : List Turn
 
 -- the actors that a turn list may name: there are no mergers yet
 abbrev pub actors_in : RunSettings → Actors
@@ -39,6 +32,10 @@ given_by job settings texts = record {
   settings = settings;
   turns = turns_of (actors_in settings) texts.turns;
 }
+
+-- what a run of this plan is given
+abbrev pub given_by_plan : Meaning → RunSettings → Plan → Given
+given_by_plan job settings plan = record { job = job; records = plan.book.records; script = plan.script; settings = settings; turns = plan.turns }
 
 -- ---- refusals
 
@@ -79,7 +76,10 @@ IsRefusal first outcome.NoMemory = Unit {0}
 IsRefusal first outcome.Done = ⊥
 IsRefusal first outcome.Usage = ⊥
 IsRefusal first (outcome.InputFailed file) = ⊥
-IsRefusal first (outcome.InputRefused why) = first ≡ Some (outcome.InputRefused why)
+IsRefusal first (outcome.InputRefused (refusal.TooLong file)) = ⊥
+IsRefusal first (outcome.InputRefused (refusal.RecordTooLong index)) = first ≡ Some (outcome.InputRefused (refusal.RecordTooLong index))
+IsRefusal first (outcome.InputRefused (refusal.TooManySplits count)) = first ≡ Some (outcome.InputRefused (refusal.TooManySplits count))
+IsRefusal first (outcome.InputRefused (refusal.TooManySpills count)) = first ≡ Some (outcome.InputRefused (refusal.TooManySpills count))
 IsRefusal first (outcome.ScriptRefused file line) = first ≡ Some (outcome.ScriptRefused file line)
 IsRefusal first (outcome.RetriesSpent split) = ⊥
 IsRefusal first outcome.FolderFailed = ⊥

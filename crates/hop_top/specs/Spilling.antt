@@ -1,19 +1,12 @@
 -- The spill folders of a call, before and after.
-use Rattle.std.specs.Prelude.{◌≡◌, ◌≢◌, ◌⊎◌, ℕ, ◌<◌, ◌≤◌, Bool, List, length, take, Option, None, Some, IfSome, is_some}
+use Rattle.std.specs.Prelude.{◌≡◌, ◌≢◌, ℕ, ◌<◌, ◌≤◌, Bool, List, length, take, Option, None, Some, is_some}
 use Rattle.std.specs.List.{slice_get, list_all}
-use Rattle.std.specs.FinMap as map
-use Rattle.hop_base.specs.Causes.{Rose}
-use Rattle.hop_base.specs.Files.{Files}
 use Rattle.hop_ports.specs.Views.{FolderView}
-use Rattle.hop_spill.specs.SpillFiles.{name_of}
+use Rattle.hop_actors.specs.Spilled.{OnlySpills}
+use Rattle.hop_replay.specs.Folders.{Spilling, SameCounts, CountRose}
 use Rattle.hop_words.specs.Options.{Asked, AskedOptions, block, run, replay}
 use Rattle.hop_top.specs.declared.outcome.Outcome.{Outcome}
 use Rattle.hop_top.specs.declared.outcome.Outcome.TheVariants as outcome
-
--- what contracts see of them, by worker
-pub record Spilling : Type 0 where
-  pub before : List FolderView
-  pub after : List FolderView
 
 -- the folder tells what it holds
 abbrev pub tells : FolderView → Bool
@@ -23,24 +16,7 @@ tells seen = is_some seen.held
 abbrev pub all_tell : ℕ → List FolderView → Bool
 all_tell workers folders = list_all tells (take workers folders)
 
--- the name is that of a spill's file
-abbrev pub IsSpillName : List ℕ → Type 0
-IsSpillName name = (split : ℕ) × (attempt : ℕ) × (from : ℕ) × (name ≡ name_of split attempt from)
-
--- Only files of spills were put: where the folder tells, it told before, and all else is as before.
-abbrev pub OnlySpillsPut : FolderView → FolderView → Type 0
-OnlySpillsPut a b = IfSome b.held (λ now. (start : Files) × (a.held ≡ Some start) × ((name : List ℕ) → (IsSpillName name → ⊥) → map.get now name ≡ map.get start name))
-
 -- ---- faults
-
--- no count of the folder's faults rose
-pub record SameCounts (a b : FolderView) : Type 0 where
-  pub gets : b.gets ≡ a.gets
-  pub puts : b.puts ≡ a.puts
-
--- one did
-abbrev pub CountRose : FolderView → FolderView → Type 0
-CountRose a b = ((b.gets ≡ a.gets) × Rose a.puts b.puts) ⊎ (Rose a.gets b.gets × (b.puts ≡ a.puts))
 
 -- What an answer says of the counts of worker w's folder, and of whether it tells.
 abbrev pub WorkerAnswers : ℕ → FolderView → FolderView → Outcome → Type 0
@@ -60,14 +36,22 @@ NamesWorker workers other = Unit {0}
 
 -- of worker w's folder
 pub record WorkerLeaves (w : ℕ) (answer : Outcome) (a b : FolderView) : Type 0 where
-  pub puts : OnlySpillsPut a b
+  pub puts : OnlySpills a.held b.held
   pub answers : WorkerAnswers w a b answer
 
 -- Of all folders, after a run with so many workers: those of its workers have spills more at most, and the others are as before.
 pub record RunLeaves (workers : ℕ) (s : Spilling) (answer : Outcome) : Type 0 where
+  pub few : workers ≤ length s.before
   pub count : length s.after ≡ length s.before
   pub named : NamesWorker workers answer
   pub own : (w : ℕ) (a b : FolderView) → w < workers → slice_get s.before w ≡ Some a → slice_get s.after w ≡ Some b → WorkerLeaves w answer a b
+  pub others : (w : ℕ) → workers ≤ w → slice_get s.after w ≡ slice_get s.before w
+
+-- Where a run came to its end, whatever comes after it: no count of a spill folder's faults rose.
+pub record LeavesSpills (workers : ℕ) (s : Spilling) : Type 0 where
+  pub few : workers ≤ length s.before
+  pub count : length s.after ≡ length s.before
+  pub own : (w : ℕ) (a b : FolderView) → w < workers → slice_get s.before w ≡ Some a → slice_get s.after w ≡ Some b → OnlySpills a.held b.held × SameCounts a b
   pub others : (w : ℕ) → workers ≤ w → slice_get s.after w ≡ slice_get s.before w
 
 -- after a command: one that makes no spills leaves them all as before

@@ -1,29 +1,21 @@
 -- When each command refuses what it read, and what it puts and prints.
-use Rattle.std.specs.Prelude.{◌≡◌, ℕ, Bool, true, false, if◌then◌else◌, List, [], ◌++◌, length, Option, None, Some, option_and_then, codes, decimal}
+use Rattle.std.specs.Prelude.{◌≡◌, ℕ, List, [], ◌++◌, length, Option, None, codes, decimal}
 use Rattle.hop_base.specs.Files.{Files}
 use Rattle.hop_base.specs.Meaning.{Meaning}
 use Rattle.hop_laws.specs.Blocking.{blocking_texts}
 use Rattle.hop_records.specs.Records.{records_of}
+use Rattle.hop_jobs.specs.Known.{known_meaning}
+use Rattle.hop_words.specs.declared.options.Command.{Command}
+use Rattle.hop_words.specs.declared.options.Command.TheVariants.{Block, Run, Replay}
 use Rattle.hop_words.specs.Options.{Asked, AskedOptions, block, run, replay}
-use Rattle.hop_top.specs.Plans.{Given, given_by, long_refusal, run_refusal}
+use Rattle.hop_replay.specs.Given.{Given}
+use Rattle.hop_replay.specs.Driven.{IsSpent}
+use Rattle.hop_replay.specs.Folders.{Spilling}
+use Rattle.hop_top.specs.Plans.{given_by, long_refusal, run_refusal}
 use Rattle.hop_top.specs.Puts.{Work, part_files}
 use Rattle.hop_top.specs.Reading.{AreReadable, RunTexts, bytes_of, reads_of, texts_held}
-use Rattle.hop_top.specs.Runs.{IsSpent, RunWorks}
-use Rattle.hop_top.specs.Spilling.{Spilling}
+use Rattle.hop_top.specs.Runs.{RunWorks}
 use Rattle.hop_top.specs.declared.outcome.Outcome.{Outcome}
-
--- ---- what is done today of what words may ask for: a run is still to come
-
-abbrev pub is_served : Asked → Bool
-is_served (block job input) = true
-is_served (run job input) = false
-is_served (replay job input) = false
-
-abbrev pub served_options : AskedOptions → Option AskedOptions
-served_options options = if is_served options.command then Some options else None
-
-abbrev pub served : Option AskedOptions → Option AskedOptions
-served asked = option_and_then served_options asked
 
 -- ---- refusals
 
@@ -77,6 +69,12 @@ abbrev pub MayPutEarly : Asked → Files → List ℕ × List ℕ → Type 0
 MayPutEarly (block job input) files file = ⊥
 MayPutEarly (run job input) files file = ⊥
 MayPutEarly (replay job input) files file = ⊥
+
+-- the command is a run of this job over this input
+abbrev pub AsksRun : Command → Meaning → List ℕ → Type 0
+AsksRun (Block job input) meaning name = ⊥
+AsksRun (Run job input) meaning name = (known_meaning job ≡ meaning) × (input ≡ name)
+AsksRun (Replay job input) meaning name = (known_meaning job ≡ meaning) × (input ≡ name)
 
 -- the command makes spills
 abbrev pub IsRun : Asked → Type 0

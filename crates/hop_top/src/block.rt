@@ -6,7 +6,7 @@ ghost use Rattle.hop_words.specs.Options.{AskedOptions, block as asked_block, se
 ghost use Rattle.hop_top.specs.Faults.{FaultsAnswered};
 ghost use Rattle.hop_top.specs.Meets.{MeetsOptions};
 ghost use Rattle.hop_top.specs.Puts.{files_in, part_files, part_name};
-ghost use Rattle.hop_top.specs.Spilling.{Spilling};
+ghost use Rattle.hop_replay.specs.Folders.{Spilling};
 ghost use Rattle.hop_top.specs.Work.{block_summary};
 
 use crate::outcome::{File, Outcome, Refusal};

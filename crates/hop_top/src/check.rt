@@ -1,9 +1,9 @@
 //! What was read for a run is cut and tested.
-ghost use Rattle.std.specs.Prelude.{◌≡◌, ◌≤◌, None, IfOk, IfErr, OnOk, length, vec_len};
+ghost use Rattle.std.specs.Prelude.{◌≡◌, ◌≤◌, All, None, IfOk, IfErr, OnOk, length, vec_len};
 ghost use Rattle.hop_words.specs.Options.{settings_of};
 ghost use Rattle.hop_records.specs.Records.{IsBook};
 ghost use Rattle.hop_script.specs.Script.{script_of};
-ghost use Rattle.hop_script.specs.TurnLines.{turns_of};
+ghost use Rattle.hop_script.specs.TurnLines.{turns_of, IsTurn};
 ghost use Rattle.hop_top.specs.Plans.{IsRefusal, actors_in, book_read, input_refusal, run_refusal, script_refusal, turns_refusal};
 
 use crate::outcome::{File, Outcome, Refusal};
@@ -68,6 +68,7 @@ fn read_script(alloc: Global, text: &[u8]) -> Result<Script, Outcome>
 fn read_turns(alloc: Global, text: &[u8], settings: &Settings) -> Result<Turns, Outcome>
     requires { length text.now ≤ 1048576 }
     ensures turns { IfOk result (λ turns. turns ≡ turns_of (actors_in (settings_of settings.now)) text.now) }
+    ensures known { IfOk result (λ turns. All (IsTurn (actors_in (settings_of settings.now))) turns) }
     ensures accepted { OnOk result (turns_refusal (settings_of settings.now) text.now ≡ None) }
     ensures refused { IfErr result (IsRefusal (turns_refusal (settings_of settings.now) text.now)) }
 {
@@ -91,6 +92,7 @@ pub fn planned(alloc: Global, texts: RunTexts, settings: &Settings) -> Result<Pl
     ensures known { IfOk result (λ plan. IsBook plan.book) }
     ensures script { IfOk result (λ plan. plan.script ≡ script_of texts.script.items) }
     ensures turns { IfOk result (λ plan. plan.turns ≡ turns_of (actors_in (settings_of settings.now)) texts.turns.items) }
+    ensures actors { IfOk result (λ plan. All (IsTurn (actors_in (settings_of settings.now))) plan.turns) }
     ensures accepted { OnOk result (run_refusal (settings_of settings.now) (record { input = texts.input.items; script = texts.script.items; turns = texts.turns.items }) ≡ None) }
     ensures refused { IfErr result (IsRefusal (run_refusal (settings_of settings.now) (record { input = texts.input.items; script = texts.script.items; turns = texts.turns.items }))) }
 {

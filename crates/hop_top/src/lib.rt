@@ -8,6 +8,7 @@ pub mod outcome;
 pub mod puts;
 pub mod reads;
 pub mod report;
+pub mod run;
 pub mod top;
 
 pub use outcome::{File, Outcome, Refusal};

@@ -1,14 +1,14 @@
 //! The top call.
-ghost use Rattle.std.specs.Prelude.{◌≡◌, map, vec_len};
+ghost use Rattle.std.specs.Prelude.{◌≡◌, [], false, Some, map, vec_len};
 ghost use Rattle.hop_words.specs.Options.{HasFiles, asked, options_of};
-ghost use Rattle.hop_top.specs.Complete.{IsComplete};
+ghost use Rattle.hop_top.specs.Complete.{IsComplete, IsNeverDone};
 ghost use Rattle.hop_top.specs.Faults.{FaultsAnswered};
-ghost use Rattle.hop_top.specs.Meets.{Meets};
-ghost use Rattle.hop_top.specs.Spilling.{Spilling};
-ghost use Rattle.hop_top.specs.Work.{served, served_options};
+ghost use Rattle.hop_top.specs.Meets.{Meets, MeetsOptions};
+ghost use Rattle.hop_top.specs.Spilling.{SpillsLeft};
 
 use crate::block::block;
 use crate::outcome::Outcome;
+use crate::run::run_job;
 use hop_base::Words;
 use hop_ports::{Folder, Gate, Sink};
 use hop_words::{Command, Options, WordsFault, read_words};
@@ -25,25 +25,46 @@ pub struct Handed<A, F, V> {
 }
 
 // Does what the options ask for.
-fn run<F: Folder, O: Sink>(alloc: Global, options: &Options, folder: &mut F, out: &mut O) -> Outcome
-    requires { HasFiles options.now }
-    ensures meets { (s : Spilling) → Meets (F.seen folder.old) (F.seen folder.new) (O.seen out.old) (O.seen out.new) s (served_options (options_of options.now)) result }
+fn run<F: Folder, V: Folder + Drop, O: Sink>(
+    alloc: Global,
+    options: &Options,
+    folder: &mut F,
+    spills: &mut Vec<V>,
+    out: &mut O,
+) -> Outcome
+    requires files { HasFiles options.now }
+    requires spills { vec_len spills.old ≡ 8 }
+    requires unmarked { options.now.settings.marks ≡ [] }
+    requires alone { options.now.settings.backup ≡ false }
+    ensures meets { MeetsOptions (F.seen folder.old) (F.seen folder.new) (O.seen out.old) (O.seen out.new) (record { before = map V.seen spills.old.items; after = map V.seen spills.new.items }) (options_of options.now) result }
     ensures answered { FaultsAnswered (F.seen folder.old) (F.seen folder.new) (O.seen out.old) (O.seen out.new) result }
+    ensures left { SpillsLeft (Some (options_of options.now)) (record { before = map V.seen spills.old.items; after = map V.seen spills.new.items }) result }
+    ensures count { vec_len spills.new ≡ 8 }
 {
     let settings = &options.settings;
     match &options.command {
         Command::Block { job, input } => block(alloc, job, input, settings, folder, out),
-        Command::Run { .. } | Command::Replay { .. } => Outcome::Usage,
+        Command::Run { job, input } => run_job(alloc, job, input, options, folder, spills, out),
+        Command::Replay { job, input } => run_job(alloc, job, input, options, folder, spills, out),
     }
 }
 
 // Does what the words ask for.
-fn answer<F: Folder, O: Sink>(alloc: Global, words: &Words, folder: &mut F, out: &mut O) -> Outcome
-    ensures meets { (s : Spilling) → Meets (F.seen folder.old) (F.seen folder.new) (O.seen out.old) (O.seen out.new) s (served (asked words.now)) result }
+fn answer<F: Folder, V: Folder + Drop, O: Sink>(
+    alloc: Global,
+    words: &Words,
+    folder: &mut F,
+    spills: &mut Vec<V>,
+    out: &mut O,
+) -> Outcome
+    requires { vec_len spills.old ≡ 8 }
+    ensures meets { Meets (F.seen folder.old) (F.seen folder.new) (O.seen out.old) (O.seen out.new) (record { before = map V.seen spills.old.items; after = map V.seen spills.new.items }) (asked words.now) result }
     ensures answered { FaultsAnswered (F.seen folder.old) (F.seen folder.new) (O.seen out.old) (O.seen out.new) result }
+    ensures left { SpillsLeft (asked words.now) (record { before = map V.seen spills.old.items; after = map V.seen spills.new.items }) result }
+    ensures count { vec_len spills.new ≡ 8 }
 {
     match read_words(alloc, words) {
-        Ok(options) => run(alloc, &options, folder, out),
+        Ok(options) => run(alloc, &options, folder, spills, out),
         Err(WordsFault::Usage) => Outcome::Usage,
         Err(WordsFault::NoMemory) => Outcome::NoMemory,
     }
@@ -54,7 +75,7 @@ fn answer<F: Folder, O: Sink>(alloc: Global, words: &Words, folder: &mut F, out:
 /// `spills` are the spill folders of the eight workers. It always returns.
 ///
 /// The idea is the online MapReduce of T. Condie and others, "MapReduce Online", NSDI 2010.
-pub fn hop_plain<F: Folder, V: Folder, O: Sink>(
+pub fn hop_plain<F: Folder, V: Folder + Drop, O: Sink>(
     alloc: Global,
     words: &Words,
     folder: F,
@@ -62,13 +83,16 @@ pub fn hop_plain<F: Folder, V: Folder, O: Sink>(
     out: &mut O,
 ) -> Handed<Outcome, F, V>
     requires { vec_len spills ≡ 8 }
-    ensures meets { Meets (F.seen folder) (F.seen result.folder) (O.seen out.old) (O.seen out.new) (record { before = map V.seen spills.items; after = map V.seen result.spills.items }) (served (asked words.now)) result.answer }
+    ensures meets { Meets (F.seen folder) (F.seen result.folder) (O.seen out.old) (O.seen out.new) (record { before = map V.seen spills.items; after = map V.seen result.spills.items }) (asked words.now) result.answer }
     ensures answered { FaultsAnswered (F.seen folder) (F.seen result.folder) (O.seen out.old) (O.seen out.new) result.answer }
-    ensures complete { IsComplete (F.seen folder) (F.seen result.folder) (O.seen out.old) (O.seen out.new) (record { before = map V.seen spills.items; after = map V.seen result.spills.items }) (served (asked words.now)) result.answer }
-    ensures spills { map V.seen result.spills.items ≡ map V.seen spills.items }
+    ensures complete { IsComplete (F.seen folder) (F.seen result.folder) (O.seen out.old) (O.seen out.new) (record { before = map V.seen spills.items; after = map V.seen result.spills.items }) (asked words.now) result.answer }
+    ensures doomed { IsNeverDone (F.seen folder) (F.seen result.folder) (O.seen out.old) (O.seen out.new) (record { before = map V.seen spills.items; after = map V.seen result.spills.items }) (asked words.now) result.answer }
+    ensures spills { SpillsLeft (asked words.now) (record { before = map V.seen spills.items; after = map V.seen result.spills.items }) result.answer }
+    ensures count { vec_len result.spills ≡ 8 }
 {
     let mut folder = folder;
-    let answer = answer(alloc, words, &mut folder, out);
+    let mut spills = spills;
+    let answer = answer(alloc, words, &mut folder, &mut spills, out);
     Handed {
         answer,
         folder,
@@ -89,14 +113,16 @@ pub fn hop<R, F, V, O, G>(
 where
     R: Threads + Wait + Copy + Send + Sync,
     F: Folder + Send,
-    V: Folder + Send,
+    V: Folder + Send + Drop,
     O: Sink,
     G: Gate + Sync,
     requires { vec_len spills ≡ 8 }
-    ensures meets { Meets (F.seen folder) (F.seen result.folder) (O.seen out.old) (O.seen out.new) (record { before = map V.seen spills.items; after = map V.seen result.spills.items }) (served (asked words.now)) result.answer }
+    ensures meets { Meets (F.seen folder) (F.seen result.folder) (O.seen out.old) (O.seen out.new) (record { before = map V.seen spills.items; after = map V.seen result.spills.items }) (asked words.now) result.answer }
     ensures answered { FaultsAnswered (F.seen folder) (F.seen result.folder) (O.seen out.old) (O.seen out.new) result.answer }
-    ensures complete { IsComplete (F.seen folder) (F.seen result.folder) (O.seen out.old) (O.seen out.new) (record { before = map V.seen spills.items; after = map V.seen result.spills.items }) (served (asked words.now)) result.answer }
-    ensures spills { map V.seen result.spills.items ≡ map V.seen spills.items }
+    ensures complete { IsComplete (F.seen folder) (F.seen result.folder) (O.seen out.old) (O.seen out.new) (record { before = map V.seen spills.items; after = map V.seen result.spills.items }) (asked words.now) result.answer }
+    ensures doomed { IsNeverDone (F.seen folder) (F.seen result.folder) (O.seen out.old) (O.seen out.new) (record { before = map V.seen spills.items; after = map V.seen result.spills.items }) (asked words.now) result.answer }
+    ensures spills { SpillsLeft (asked words.now) (record { before = map V.seen spills.items; after = map V.seen result.spills.items }) result.answer }
+    ensures count { vec_len result.spills ≡ 8 }
 {
     let _ = rt;
     let _ = gate;
