@@ -1,15 +1,18 @@
-# make demo: builds the program without proving it, and counts the words of the sample.
+# make demo: builds the program without proving it, and runs the sample job.
 # make hop: proves and builds the program, and leaves it as ./hop.
 # make test: the gate over the whole repository, and then the checks over the real program.
 
 .PHONY: demo test hop
 
-# `rt try` builds and runs it in a folder of its own, which it then removes with the part files.
+# `rt try` builds and runs it in a folder of its own, which it then removes with the files.
 demo:
-	@echo "Builds hop and counts the words of crates/hop_main/data/in.txt: about two minutes."
+	@echo "Builds hop and counts the words of crates/hop_main/data/in.txt, with two workers and two reducers, by the"
+	@echo "fault script beside it: about two minutes. Its first attempt of split 0 fails, and reducer 1 restarts."
 	@echo "Not proved by this command: make test proves all, in about an hour on four processors."
-	cd crates/hop_main && rt try --data in.txt=data/in.txt -- block wc in.txt
-	@echo "The part file went with the folder of that run. make hop proves the program, some half an hour, and leaves it as ./hop."
+	cd crates/hop_main && rt try --data in.txt=data/in.txt --data script=data/script -- run wc in.txt --reducers 2 --split 1 --script script
+	@echo "Attempts beyond the number of splits were tried again; what was pulled was lost by a restart and fetched from"
+	@echo "the workers' spills. The files went with the folder of that run: README, under Use, shows what they hold."
+	@echo "make hop proves the program, some half an hour, and leaves it as ./hop."
 
 # `rt run` proves the program, builds it and runs it; with no words it answers that they are not
 # understood, so what counts here is that the program stands there afterwards.

@@ -201,6 +201,213 @@ ended 6 'hop: the job folder failed' '' 'in part-0 part-1 '
 holds part-0 'b>2 '
 end
 
+# ---- runs
+
+four='a\nb\na\nc\n'
+
+# The trace, by its lines behind the head: SPLITS REDUCERS LINES
+traces() {
+    holds trace "hop-trace 1 job wc splits $1 reducers $2 $3 end "
+}
+
+# A replay of the turn list, over splits of two records and spills of one.
+replayed() {
+    printf "$1" >turns
+    shift
+    run replay wc in --split 2 --spill 1 --workers 1 --turns turns "$@"
+}
+
+begin 'a run'
+printf "$counts" >in.txt
+run run wc in.txt
+ended 0 '' 'done records=3 splits=1 parts=1 snapshots=0 attempts=1 pulled=0 settled=1' 'in.txt part-0 spill-0 trace '
+holds part-0 'a>3 b>2 c>1 '
+traces 1 1 'begun 0 1 reducer 0 arrive 0 0 0 3 s0 won 0 0 finish'
+same spills 's-0-0-0 ' "$(ls -A spill-0 | tr '\n' ' ')"
+end
+
+begin 'a run over two reducers and two workers'
+printf 'a b\na a\nb c\nc c\n' >in
+run run wc in --reducers 2 --split 2 --spill 1
+ended 0 '' 'done records=4 splits=2 parts=2 snapshots=0 attempts=2 pulled=0 settled=8' 'in part-0 part-1 spill-0 spill-1 trace '
+holds part-0 'b>2 '
+holds part-1 'a>3 c>3 '
+end
+
+begin 'a run of no records'
+: >in
+run run wc in
+ended 0 '' 'done records=0 splits=0 parts=1 snapshots=0 attempts=0 pulled=0 settled=0' 'in part-0 trace '
+holds part-0 ''
+traces 0 1 'reducer 0 finish'
+end
+
+begin 'turns are taken as the list has them'
+printf "$four" >in
+replayed 'm0 3\nr0 2\n'
+ended 0 '' 'done records=4 splits=2 parts=1 snapshots=0 attempts=2 pulled=0 settled=2' 'in part-0 spill-0 trace turns '
+holds part-0 'a>2 b>1 c>1 '
+traces 2 1 'begun 0 1 begun 1 1 reducer 0 arrive 0 0 0 1 w0 arrive 0 0 1 2 w0 won 0 0 arrive 1 0 0 1 s0 arrive 1 0 1 2 s0 won 1 0 finish'
+same spills 's-0-0-0 s-0-0-1 s-1-0-0 s-1-0-1 ' "$(ls -A spill-0 | tr '\n' ' ')"
+end
+
+begin 'an attempt fails and is tried again'
+printf "$four" >in
+echo 'fail 0 0 1' >script
+replayed 'm0 2\nr0\nm0\nr0\nm0 3\nr0 2\nm0\nr0\nm0 3\nr0 2\nm0\nr0\n' --script script
+ended 0 '' 'done records=4 splits=2 parts=1 snapshots=0 attempts=3 pulled=0 settled=0' 'in part-0 script spill-0 trace turns '
+holds part-0 'a>2 b>1 c>1 '
+traces 2 1 'begun 0 2 begun 1 1 reducer 0 arrive 0 0 0 1 w0 revoked 0 0 arrive 0 1 0 1 w0 arrive 0 1 1 2 w0 won 0 1 arrive 1 0 0 1 w0 arrive 1 0 1 2 w0 won 1 0 finish'
+same spills 's-0-0-0 s-0-1-0 s-0-1-1 s-1-0-0 s-1-0-1 ' "$(ls -A spill-0 | tr '\n' ' ')"
+end
+
+begin 'a split has spent its attempts'
+printf "$four" >in
+echo 'fail 0 0 0' >script
+replayed '' --script script --attempts 1
+ended 5 'hop: split 0 has spent its attempts' '' 'in script turns '
+replayed '' --script script --attempts 2
+ended 0 '' 'done records=4 splits=2 parts=1 snapshots=0 attempts=3 pulled=0 settled=4' 'in part-0 script spill-0 trace turns '
+end
+
+begin 'an attempt fails at the end of its split'
+printf 'a\nb\n' >in
+echo 'fail 0 0 2' >script
+replayed '' --script script
+ended 0 '' 'done records=2 splits=1 parts=1 snapshots=0 attempts=2 pulled=0 settled=4' 'in part-0 script spill-0 trace turns '
+traces 1 1 'begun 0 2 reducer 0 arrive 0 0 0 1 s0 arrive 0 0 1 2 s0 revoked 0 0 arrive 0 1 0 1 s0 arrive 0 1 1 2 s0 won 0 1 finish'
+end
+
+begin 'ranges are joined behind a full lane'
+printf "$four" >in
+printf 'm0 6\n' >turns
+run replay wc in --split 4 --spill 1 --workers 1 --lane 1 --turns turns
+ended 0 '' 'done records=4 splits=1 parts=1 snapshots=0 attempts=1 pulled=0 settled=3' 'in part-0 spill-0 trace turns '
+holds part-0 'a>2 b>1 c>1 '
+traces 1 1 'begun 0 1 reducer 0 arrive 0 0 0 1 s0 arrive 0 0 1 2 s0 arrive 0 0 2 4 s0 won 0 0 finish'
+end
+
+begin 'a reducer restarts and pulls what it lacks'
+printf 'a\nb\nc\n' >in
+echo 'restart 0 2' >script
+printf 'm0 3\nr0 2\nm0\nr0 2\n' >turns
+run replay wc in --split 3 --spill 1 --workers 1 --script script --turns turns
+ended 0 '' 'done records=3 splits=1 parts=1 snapshots=0 attempts=1 pulled=1 settled=0' 'in part-0 script spill-0 trace turns '
+holds part-0 'a>1 b>1 c>1 '
+traces 1 1 'begun 0 1 reducer 0 arrive 0 0 0 1 w0 arrive 0 0 1 2 w0 restart ignore 0 0 2 3 w0 0 won 0 0 arrive 0 0 0 3 pull finish'
+end
+
+begin 'catching up in a turn list'
+printf 'a\nb\nc\n' >in
+echo 'restart 0 2' >script
+printf 'm0 3\nr0 3\nc\nm0 2\nr0 2\n' >turns
+run replay wc in --split 3 --spill 1 --workers 1 --script script --turns turns
+ended 0 '' 'done records=3 splits=1 parts=1 snapshots=0 attempts=1 pulled=1 settled=0' 'in part-0 script spill-0 trace turns '
+holds part-0 'a>1 b>1 c>1 '
+traces 1 1 'begun 0 1 reducer 0 arrive 0 0 0 1 w0 arrive 0 0 1 2 w0 restart arrive 0 0 0 2 pull arrive 0 0 2 3 w0 won 0 0 finish'
+end
+
+begin 'a million turns of one worker'
+printf "$four" >in
+replayed 'm0 1000000\n'
+ended 0 '' 'done records=4 splits=2 parts=1 snapshots=0 attempts=2 pulled=0 settled=3' 'in part-0 spill-0 trace turns '
+holds part-0 'a>2 b>1 c>1 '
+end
+
+begin 'turns that nobody can use'
+printf "$four" >in
+replayed 's 5\nr0 5\nc\ns\n'
+ended 0 '' 'done records=4 splits=2 parts=1 snapshots=0 attempts=2 pulled=0 settled=4' 'in part-0 spill-0 trace turns '
+end
+
+# Each attempt of each split but the last fails at its end, and the reducer restarts at the first arrivals. Its events grow with these, and not with their square.
+begin 'failures and restarts cost what they are'
+i=0
+while [ $i -lt 20 ]; do echo "w$i"; i=$((i + 1)); done >in
+before=''
+for restarts in 0 3 6 9; do
+    { for split in 0 1 2 3 4 5 6 7 8 9; do for attempt in 0 1 2; do echo "fail $split $attempt 9"; done; done
+        i=1; while [ $i -le "$restarts" ]; do echo "restart 0 $i"; i=$((i + 1)); done; } >script
+    run run wc in --split 2 --spill 1 --workers 1 --script script
+    same status 0 "$status"
+    events=$(grep -c -e '^arrive' -e '^ignore' -e '^won' -e '^revoked' -e '^restart' -e '^finish' trace)
+    if [ -z "$before" ]; then
+        # 10 splits of 4 attempts of 2 ranges, 3 of them revoked and 1 won, and a finish.
+        same events 121 "$events"
+    else
+        # A restart is one event; what was lost is ignored or pulled again, and that is at most one split's.
+        [ "$events" -gt "$before" ] && [ "$events" -le $((before + 15)) ] || fault="$fault; $restarts restarts: $before events and then $events"
+    fi
+    before=$events
+done
+end
+
+# The same with a restart after each of the first arrivals, 8 for each split: what is done grows with the splits, and not with their square.
+begin 'a restart after each arrival'
+each=''
+for splits in 2 4 8 16; do
+    i=0
+    while [ $i -lt $((2 * splits)) ]; do echo "w$i"; i=$((i + 1)); done >in
+    { i=0; while [ $i -lt $splits ]; do printf "fail $i 0 9\nfail $i 1 9\nfail $i 2 9\n"; i=$((i + 1)); done
+        i=1; while [ $i -le $((8 * splits)) ]; do echo "restart 0 $i"; i=$((i + 1)); done; } >script
+    run run wc in --split 2 --spill 1 --workers 1 --script script
+    same status 0 "$status"
+    same restarts $((8 * splits)) "$(grep -c '^restart' trace)"
+    # All but the finish, for each split.
+    events=$(grep -c -e '^arrive' -e '^ignore' -e '^won' -e '^revoked' -e '^restart' trace)
+    each="$each $((events / splits))"
+done
+set -- $each; same "events a split" "$1 $1 $1 $1" "$*"
+end
+
+begin 'the greatest number of splits, and one more'
+yes x | head -1024 >in
+run run wc in --split 1
+ended 0 '' 'done records=1024 splits=1024 parts=1 snapshots=0 attempts=1024 pulled=0 settled=1024' 'in part-0 spill-0 spill-1 trace '
+holds part-0 'x>1024 '
+rm -rf part-0 trace spill-0 spill-1
+echo x >>in
+run run wc in --split 1
+ended 3 'hop: 1025 splits are too many' '' 'in '
+end
+
+begin 'too many spills'
+yes x | head -65537 >in
+run run wc in --split 65536 --spill 1
+ended 3 'hop: 65537 spills are too many' '' 'in '
+end
+
+begin 'what a run reads is missing or bad'
+run run wc none
+ended 2 'hop: cannot read the input' '' ''
+printf "$four" >in
+run run wc in --script none
+ended 2 'hop: cannot read the script' '' 'in '
+run replay wc in --turns none
+ended 2 'hop: cannot read the turn list' '' 'in '
+printf 'fail 0 0\n' >s
+run run wc in --script s
+ended 4 'hop: line 1 of the script is not understood' '' 'in s '
+printf 'm0\nm9\n' >t
+run replay wc in --workers 1 --turns t
+ended 4 'hop: line 2 of the turn list is not understood' '' 'in s t '
+end
+
+begin 'a file in place of a spill folder'
+printf "$four" >in
+echo mine >spill-0
+run run wc in --workers 1
+ended 7 'hop: spill folder 0 failed' '' 'in spill-0 '
+holds spill-0 'mine '
+end
+
+begin 'a directory where the trace goes'
+printf "$four" >in
+mkdir trace
+run run wc in --workers 1
+ended 6 'hop: the job folder failed' '' 'in part-0 spill-0 trace '
+end
+
 begin 'standard output is closed'
 printf "$counts" >in
 "$program" block wc in 2>"$top/err" >&-

@@ -4,7 +4,6 @@ ghost use Rattle.hop_base.specs.Files.{Files};
 ghost use Rattle.hop_ports.specs.Clean.{clean_view};
 ghost use Rattle.hop_words.specs.Options.{AskedOptions, asked};
 ghost use Rattle.hop_top.specs.Reading.{AreReadable, reads_of};
-ghost use Rattle.hop_top.specs.Work.{served};
 
 use hop_base::{NoMemory, Part, Words};
 use hop_ports::{CleanFolder, Folder, GetFault, MemFolder, MemSink, OpenGate, Sink};
@@ -121,7 +120,7 @@ fn usage<F: Folder + Drop>(
     out: &mut MemSink,
 ) -> Outcome
     requires { vec_len spills ≡ 8 }
-    ensures { served (asked words.now) ≡ None → (result ≡ Outcome.Usage) ⊎ (result ≡ Outcome.NoMemory) }
+    ensures { asked words.now ≡ None → (result ≡ Outcome.Usage) ⊎ (result ≡ Outcome.NoMemory) }
 {
     hop_plain(alloc, words, folder, spills, out).answer
 }
@@ -135,7 +134,7 @@ fn over_clean_present(
     out: &mut MemSink,
 ) -> Outcome
     requires { vec_len spills ≡ 8 }
-    ensures { (options : AskedOptions) (files : Files) (file : File) → served (asked words.now) ≡ Some options → (clean_view folder).held ≡ Some files
+    ensures { (options : AskedOptions) (files : Files) (file : File) → asked words.now ≡ Some options → (clean_view folder).held ≡ Some files
         → AreReadable files (reads_of options) → result ≢ Outcome.InputFailed file }
 {
     hop_plain(alloc, words, folder, spills, out).answer

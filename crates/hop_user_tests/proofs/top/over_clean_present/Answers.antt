@@ -2,7 +2,7 @@ use Rattle.std.proofs.Common.{arith}
 use Rattle.std.specs.Prelude.{map}
 use Rattle.hop_ports.specs.Clean.{clean_view}
 use Rattle.hop_ports.specs.Sinks.{memory_sink}
-use Rattle.hop_top.specs.Spilling.{Spilling}
+use Rattle.hop_replay.specs.Folders.{Spilling}
 use Rattle.hop_top.proofs.CompleteLaws.{no_input_fails}
 use Rattle.hop_user_tests.proofs.top.over_clean_present.Goals as goal
 

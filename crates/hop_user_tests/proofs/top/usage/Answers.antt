@@ -4,7 +4,7 @@ use Rattle.hop_ports.specs.Clean.{clean_view}
 use Rattle.hop_ports.specs.Sinks.{memory_sink}
 use Rattle.hop_words.specs.Options.{AskedOptions}
 use Rattle.hop_top.specs.Meets.{Meets}
-use Rattle.hop_top.specs.Spilling.{Spilling}
+use Rattle.hop_replay.specs.Folders.{Spilling}
 use Rattle.hop_top.proofs.CompleteLaws.{nothing_asked}
 use Rattle.hop_user_tests.proofs.top.usage.Goals as goal
 
