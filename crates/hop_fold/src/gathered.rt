@@ -1,19 +1,16 @@
 //! The pairs of the partitions, gathered while records are mapped.
-ghost use Rattle.std.specs.Prelude.{◌≡◌, ◌≤◌, ◌∷◌, [], ℕ, Bool, true, false, List, length, replicate, map, IfOk, IfSome, OnOk};
-ghost use Rattle.hop_base.specs.declared.value.Pair.{Pair};
+ghost use Rattle.std.specs.Prelude.{◌≡◌, ◌≤◌, ◌∷◌, [], length, IfOk, OnOk};
 ghost use Rattle.hop_laws.specs.Groups.{red};
 ghost use Rattle.hop_base.specs.Fields.{pair_of};
-ghost use Rattle.hop_base.specs.Order.{val_cmp};
-ghost use Rattle.hop_base.specs.Sorted.{ord};
-ghost use Rattle.hop_laws.specs.Numbers.{number_val};
-ghost use Rattle.hop_laws.specs.Stands.{KeepsStanding};
-ghost use Rattle.hop_fold.specs.Gathering.{StandsWith};
+ghost use Rattle.hop_laws.specs.Stands.{KeepsStanding, StandsWith};
 
-use crate::index::Index;
 use hop_base::{NoMemory, Text};
-use hop_laws::{Gathered, Job, PairSink, key_hash};
+use hop_laws::{Gathered, Index, Job, PairSink};
 use std::alloc::Global;
 use std::marker::Model;
+
+// The index has 2 to the power of so many slots: those of 8 bytes stay in a processor's cache.
+const INDEX_BITS: u32 = 15;
 
 // Pairs of one partition. They are combined each time that they have grown to some times as many, so there are
 // about as many as combine leaves, however many map emits.
@@ -39,7 +36,7 @@ impl Folded {
     pub(crate) fn new(alloc: Global, least: usize) -> Result<Folded, NoMemory>
         ensures { IfOk result (λ made. made ≡ []) }
     {
-        let index = Index::new(alloc)?;
+        let index = Index::new(alloc, INDEX_BITS)?;
         Ok(Folded {
             pairs: Gathered::new(alloc),
             least,
@@ -62,31 +59,11 @@ impl Folded {
         ensures { OnOk result (StandsWith (J.meaning job.now).reduced self.old (pair_of key.now number text.now ∷ []) self.new) }
     {
         if text.is_empty() {
-            if self.joins(job, key, number) {
+            if self.index.join(job, &mut self.pairs, key, number) {
                 return Ok(());
             }
         }
         self.append(alloc, job, key, number, text)
-    }
-
-    // One more number, where the index finds one of the key and the job joins the two. It tells whether that is so; if
-    // not, the pairs are as before, and the index knows where one more will be.
-    fn joins<J: Job>(&mut self, job: &J, key: &[u8], number: u64) -> bool
-        requires { length key.now ≤ 131071 }
-        ensures joined { result ≡ true → StandsWith (J.meaning job.now).reduced self.old (pair_of key.now number [] ∷ []) self.new }
-        ensures not { result ≡ false → self.new ≡ self.old }
-    {
-        let hash = key_hash(key);
-        if let Some(place) = self.index.guess(hash) {
-            if let Some(there) = self.pairs.number_at(place, key) {
-                if let Some(both) = joined(job, there, number) {
-                    self.pairs.set_number(place, both);
-                    return true;
-                }
-            }
-        }
-        self.index.put(hash, self.pairs.len());
-        false
     }
 
     // One more pair, behind all. They are combined where they have grown to the limit.
@@ -127,13 +104,6 @@ impl Folded {
         let text = self.pairs.reduced(alloc, job)?;
         Ok(Text::from_vec(text))
     }
-}
-
-// What a job joins two numbers of a key to, in whichever order they came.
-fn joined<J: Job>(job: &J, a: u64, b: u64) -> Option<u64>
-    ensures { IfSome result (λ n. (key : List ℕ) → (J.meaning job.now).combined key (ord val_cmp (number_val a ∷ number_val b ∷ [])) ≡ number_val n ∷ []) }
-{
-    job.joined(a.min(b), a.max(b))
 }
 
 // Puts the pairs in order, and combines them unless they are mostly apart. It tells whether they are.

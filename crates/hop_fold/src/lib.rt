@@ -3,7 +3,6 @@
 
 pub mod blocking;
 mod gathered;
-mod index;
 mod lines;
 mod lists;
 

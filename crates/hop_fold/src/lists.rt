@@ -37,8 +37,8 @@ impl<'a, J: Job> Lists<'a, J> {
 impl<J: Job> PairSink for Lists<'_, J> {
     ghost use Rattle.std.specs.Prelude.{◌≡◌, refl};
     ghost use Rattle.std.proofs.Common.{ap, ◌∙◌};
-    ghost use Rattle.hop_fold.specs.Gathering.{TakesIn};
-    ghost use Rattle.hop_fold.specs.GatheringLaws.{none_taken, more_taken_by};
+    ghost use Rattle.hop_laws.specs.Taking.{TakesIn};
+    ghost use Rattle.hop_laws.specs.TakingLaws.{none_taken, more_taken_by};
 
     ghost takes = { λ s ps t. (t.job.now ≡ s.job.now) × TakesIn (J.meaning s.job.now).reduced s.lists.items ps t.lists.items };
 

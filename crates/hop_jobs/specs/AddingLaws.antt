@@ -9,6 +9,7 @@ use Rattle.hop_base.specs.declared.value.Val.{Val}
 use Rattle.hop_base.specs.Order.{val_cmp, IsValid}
 use Rattle.hop_base.specs.Sorted.{ord, insert_in_order}
 use Rattle.hop_laws.specs.Laws.{AlwaysCombinesWell, ReducesAlike, WritesLines}
+use Rattle.hop_laws.specs.Numbers.{number_val, IsOneForBoth}
 use Rattle.hop_laws.proofs.Lines.{lines_none, lines_more}
 use Rattle.hop_jobs.specs.Adding.{number, saturating_sum, number_line, sum_combined, sum_reduced}
 
@@ -38,6 +39,16 @@ same_sum vs ws = omega (arith, sum_ord (number (saturating_sum (ord val_cmp vs))
 
 pub sum_reduces_alike : ReducesAlike sum_combined sum_reduced
 sum_reduces_alike k vs ws some valid further = ap (number_line k) (same_sum vs ws)
+
+-- the sum of two numbers is one for both
+pub sum_joins : (a b n : ℕ) → n ≡ saturating_sum (number_val a ∷ number_val b ∷ []) → IsOneForBoth sum_combined a b n
+sum_joins a b n e = record {
+  alone = λ key. ap (λ m. number m ∷ []) (omega (arith, e, sum_ord (number_val a ∷ number_val b ∷ [])));
+  among = λ key ws valid. ap (λ m. number m ∷ []) (omega (arith, e, sum_ord (number_val a ∷ number_val b ∷ ws), sum_ord (number_val n ∷ ws), sums_of a b ws, sums_of a b [], sum_by-cons (λ (v : Val). v.n) (number_val n) ws));
+}
+  where
+    sums_of : (a b : ℕ) (ws : List Val) → sum_by (λ v. v.n) (number_val a ∷ number_val b ∷ ws) ≡ a + (b + sum_by (λ v. v.n) ws)
+    sums_of a b ws = omega (arith, sum_by-cons (λ (v : Val). v.n) (number_val a) (number_val b ∷ ws), sum_by-cons (λ (v : Val). v.n) (number_val b) ws)
 
 -- ---- whole lines
 

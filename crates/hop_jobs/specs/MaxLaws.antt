@@ -1,5 +1,5 @@
 -- The job that finds the greatest number of each key meets the laws.
-use Rattle.std.proofs.Common.{◌≡◌, ◌+◌, ◌^◌, ◌<◌, ◌≤◌, Bool, true, false, cond, List, [], ◌∷◌, ◌++◌, length, max, refl, ap, ◌∙◌, arith}
+use Rattle.std.proofs.Common.{◌≡◌, ℕ, ◌+◌, ◌^◌, ◌<◌, ◌≤◌, Bool, true, false, cond, List, [], ◌∷◌, ◌++◌, length, max, refl, ap, ◌∙◌, arith}
 use Rattle.std.specs.Prelude.{◌≢◌, All, codes}
 use Rattle.std.specs.List.{AllByRecursion}
 use Rattle.std.specs.Ordering.{is_gt}
@@ -9,6 +9,7 @@ use Rattle.hop_base.specs.Order.{val_cmp, IsValid}
 use Rattle.hop_base.specs.Sorted.{ord, insert_in_order}
 use Rattle.hop_base.proofs.Sorted.{All-ord, length-ord}
 use Rattle.hop_laws.specs.Laws.{AlwaysCombinesWell, ReducesAlike, WritesLines, IsName, IsLawful}
+use Rattle.hop_laws.specs.Numbers.{number_val, IsOneForBoth}
 use Rattle.hop_laws.proofs.Lines.{lines_none, lines_more}
 use Rattle.std.specs.Prelude.{decimal}
 use Rattle.hop_jobs.specs.Adding.{number, number_line}
@@ -53,6 +54,13 @@ same_greatest vs ws = omega (arith, greatest_ord (number (greatest (ord val_cmp 
 
 pub max_reduces_alike : ReducesAlike max_combined max_reduced
 max_reduces_alike k vs ws some valid further = ap (number_line k) (same_greatest vs ws)
+
+-- the greater of two numbers is one for both
+pub max_joins : (a b : ℕ) → a ≤ b → IsOneForBoth max_combined a b b
+max_joins a b le = record {
+  alone = λ key. ap (λ m. number m ∷ []) (omega (arith, greatest_ord (number_val a ∷ number_val b ∷ [])));
+  among = λ key ws valid. ap (λ m. number m ∷ []) (omega (arith, greatest_ord (number_val a ∷ number_val b ∷ ws), greatest_ord (number_val b ∷ ws)));
+}
 
 pub max_writes_lines : WritesLines max_reduced
 max_writes_lines m key vs short texts valid =

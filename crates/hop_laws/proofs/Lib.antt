@@ -5,8 +5,10 @@ pub mod FlatGroupLaws
 pub mod GatheredLaws
 pub mod GroupLaws
 pub mod HeadLaws
+pub mod Joining
 pub mod Keys
 pub mod Lines
 pub mod NumberLaws
 pub mod StandsLaws
+pub mod TakenLaws
 pub mod Values

@@ -7,7 +7,6 @@ use Rattle.std.specs.List.Sorted.{IsPermutation}
 use Rattle.std.proofs.lemmas.Slice.Eq.{bytes_eq-Decides}
 use Rattle.std.proofs.lemmas.List.{append-nil}
 use Rattle.std.proofs.lemmas.List.Elements.{All-append, All-map, All-filter, All-weaker, All-nil}
-use Rattle.std.proofs.lemmas.List.Sorted.{IsPermutation-refl}
 use Rattle.std.proofs.lemmas.Bool.{true≢false, false≢true, cases_Bool}
 use Rattle.hop_base.specs.declared.value.Val.{Val}
 use Rattle.hop_base.specs.declared.value.Pair.{Pair}
@@ -29,7 +28,7 @@ pub valid_values : (k : List ℕ) (ps : List Pair) → All IsValidPair ps → Al
 valid_values k ps h = All-map IsValid (λ (p : Pair). p.val) (filter (λ p. bytes_eq k p.key) ps) (All-filter (λ (p : Pair). bytes_eq k p.key) (λ (p : Pair). IsValid p.val) ps (All-weaker IsValidPair (λ p. IsValid p.val) (λ p v. v.value) ps h))
 
 -- a sheet stands for its pairs in any order
-pub stands_sorted : (reduce : List ℕ → List Val → List ℕ) (ps sheet : List Pair) → IsPermutation ps sheet → StandsFor reduce sheet ps
+pub stands_sorted : {X : Type 0} (reduce : List ℕ → List Val → X) (ps sheet : List Pair) → IsPermutation ps sheet → StandsFor reduce sheet ps
 stands_sorted reduce ps sheet h = record {
   same_keys = sym (keys_same ps sheet (λ k. has_key-IsPermutation k ps sheet h));
   same_reduce = λ k ws v.
@@ -39,7 +38,7 @@ stands_sorted reduce ps sheet h = record {
 }
 
 -- two sheets as one
-pub stands_merged : (reduce : List ℕ → List Val → List ℕ) (a b sheet ps qs : List Pair) → All IsValidPair b → All IsValidPair ps → IsPermutation (a ++ b) sheet → StandsFor reduce a ps → StandsFor reduce b qs → StandsFor reduce sheet (ps ++ qs)
+pub stands_merged : {X : Type 0} (reduce : List ℕ → List Val → X) (a b sheet ps qs : List Pair) → All IsValidPair b → All IsValidPair ps → IsPermutation (a ++ b) sheet → StandsFor reduce a ps → StandsFor reduce b qs → StandsFor reduce sheet (ps ++ qs)
 stands_merged reduce a b sheet ps qs vb vps h sa sb = record {
   same_keys = keys_same sheet (ps ++ qs) (λ k.
       sym (has_key-IsPermutation k (a ++ b) sheet h) ∙ has_key-append k a b
@@ -161,26 +160,32 @@ stands_combined combine reduce a sheet ps well alike va h s =
     }
 
 -- pairs stand for themselves
-pub stands_itself : (reduce : List ℕ → List Val → List ℕ) (ps : List Pair) → StandsFor reduce ps ps
+pub stands_itself : {X : Type 0} (reduce : List ℕ → List Val → X) (ps : List Pair) → StandsFor reduce ps ps
 stands_itself reduce ps = record { same_keys = refl; same_reduce = λ k ws v. refl }
 
 -- and for what pairs that they stand for stand for
-pub stands_through : (reduce : List ℕ → List Val → List ℕ) (ps qs rs : List Pair) → StandsFor reduce ps qs → StandsFor reduce qs rs → StandsFor reduce ps rs
+pub stands_through : {X : Type 0} (reduce : List ℕ → List Val → X) (ps qs rs : List Pair) → StandsFor reduce ps qs → StandsFor reduce qs rs → StandsFor reduce ps rs
 stands_through reduce ps qs rs h k = record {
   same_keys = h.same_keys ∙ k.same_keys;
   same_reduce = λ key ws v. h.same_reduce key ws v ∙ k.same_reduce key ws v;
 }
 
--- one value stands for two of its key, if they are combined to it
-pub stands_two : (combine : List ℕ → List Val → List Val) (reduce : List ℕ → List Val → List ℕ) (key : List ℕ) (v w u : Val) → AlwaysCombinesWell combine → ReducesAlike combine reduce → All IsValidPair (pairs_at key (v ∷ w ∷ [])) → combine key (ord val_cmp (v ∷ w ∷ [])) ≡ u ∷ [] → StandsFor reduce (pairs_at key (u ∷ [])) (pairs_at key (v ∷ w ∷ []))
-stands_two combine reduce key v w u well alike valid e =
-    let a : List Pair = pairs_at key (v ∷ w ∷ []) in
-    let keys : keys_of a ≡ key ∷ [] = ap (λ b. cond b (key ∷ []) (cond (is_gt (key_cmp key key)) (key ∷ key ∷ []) (key ∷ key ∷ []))) (key_itself key) in
-    let one : combined_pairs combine a ≡ pairs_at key (u ∷ []) =
-    ap (λ ks. flat_map (λ k. pairs_at k (combine k (ord val_cmp (values_of k a)))) ks) keys
-    ∙ append-nil (pairs_at key (combine key (ord val_cmp (values_of key a))))
-    ∙ ap (λ vs. pairs_at key (combine key (ord val_cmp vs))) (values_here key (v ∷ w ∷ []))
-    ∙ ap (pairs_at key) e in
-    stands_combined combine reduce a (pairs_at key (u ∷ [])) a well alike valid
-    (subst (λ (qs : List Pair). IsPermutation (combined_pairs combine a) qs) one (IsPermutation-refl (combined_pairs combine a)))
-    (stands_itself reduce a)
+-- the same is combined of pairs, and of what they stand for to combine
+pub combined_alike : (combine : List ℕ → List Val → List Val) (sheet ps : List Pair) → StandsFor combine sheet ps → combined_pairs combine sheet ≡ combined_pairs combine ps
+combined_alike combine sheet ps s =
+    each_alike (λ k vs. pairs_at k (combine k vs)) sheet ps s.same_keys
+    (λ k. ap (pairs_at k) (ap (λ x. combine k (ord val_cmp x)) (sym (append-nil (values_of k sheet))) ∙ s.same_reduce k [] (All-nil IsValid) ∙ ap (λ x. combine k (ord val_cmp x)) (append-nil (values_of k ps))))
+
+-- one value stands for two of its key, if it does so at that key
+pub stands_two : {X : Type 0} (reduce : List ℕ → List Val → X) (key : List ℕ) (v w u : Val) → ((ws : List Val) → All IsValid ws → reduce key (ord val_cmp (u ∷ ws)) ≡ reduce key (ord val_cmp (v ∷ w ∷ ws))) → StandsFor reduce (pairs_at key (u ∷ [])) (pairs_at key (v ∷ w ∷ []))
+stands_two reduce key v w u h = record {
+  same_keys = sym (ap (λ b. cond b (key ∷ []) (cond (is_gt (key_cmp key key)) (key ∷ key ∷ []) (key ∷ key ∷ []))) (key_itself key));
+  same_reduce = λ k ws valid. at k ws valid (bytes_eq k key) refl;
+}
+  where
+    at : (k : List ℕ) (ws : List Val) → All IsValid ws → (b : Bool) → bytes_eq k key ≡ b → reduce k (ord val_cmp (values_of k (pairs_at key (u ∷ [])) ++ ws)) ≡ reduce k (ord val_cmp (values_of k (pairs_at key (v ∷ w ∷ [])) ++ ws))
+    at k ws valid true e =
+        subst (λ l. reduce l (ord val_cmp (values_of l (pairs_at key (u ∷ [])) ++ ws)) ≡ reduce l (ord val_cmp (values_of l (pairs_at key (v ∷ w ∷ [])) ++ ws))) (sym ((bytes_eq-Decides k key).0 e))
+        (ap (λ vs. reduce key (ord val_cmp (vs ++ ws))) (values_here key (u ∷ [])) ∙ h ws valid ∙ ap (λ vs. reduce key (ord val_cmp (vs ++ ws))) (sym (values_here key (v ∷ w ∷ []))))
+    at k ws valid false e =
+        ap (λ vs. reduce k (ord val_cmp (vs ++ ws))) (values_none k (pairs_at key (u ∷ [])) (has_other k key (u ∷ []) e) ∙ sym (values_none k (pairs_at key (v ∷ w ∷ [])) (has_other k key (v ∷ w ∷ []) e)))

@@ -7,3 +7,5 @@ pub mod Laws
 pub mod Numbers
 pub mod Partition
 pub mod Stands
+pub mod Taking
+pub mod TakingLaws

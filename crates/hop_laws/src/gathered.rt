@@ -127,6 +127,7 @@ impl Gathered {
     ) -> Result<(), NoMemory>
         ensures given { OnOk result (S.takes sink.old (combined_pairs (J.meaning job.now).combined self.old) sink.new) }
         ensures sorted { self.new ≡ ord pair_cmp self.old }
+        ensures valid { All IsValidPair self.old }
     {
         self.sort();
         combine_entries(alloc, job, &self.arena, &self.entries, sink)

@@ -45,8 +45,9 @@ pub trait Job {
         requires sorted { IsSorted val_cmp vals.items }
         ensures { IfOk result (λ kept. kept.items ≡ (meaning self.now).combined key.now vals.items) };
 
-    /// What two numbers of a key that have no texts are combined to, the lesser first, where that is one number whatever the key is. A job that tells it
-    /// spares a call of `combine` for each pair whose key is there; unless it says otherwise it tells nothing, and values are combined when many have gathered.
+    /// One number for two of a key that have no texts, the lesser first: what combine gives of the two, whatever the key is, and no combine may tell it from
+    /// them, whatever values are there besides. A job that tells it spares its pairs being sorted and combined one by one, since a pair
+    /// whose key is there already is joined to that; unless it says otherwise it tells nothing, and values are combined when many have gathered.
     fn joined(&self, a: u64, b: u64) -> Option<u64>
         requires { a ≤ b }
         ensures { JoinsTo (meaning self.now) a b result }

@@ -1,16 +1,11 @@
 -- Pairs that are parted by the partitions of their keys.
-use Rattle.std.specs.Prelude.{◌≡◌, ℕ, ◌<◌, List, [], ◌∷◌, ◌++◌, length, slice_index_or}
+use Rattle.std.specs.Prelude.{◌≡◌, ℕ, List, [], ◌∷◌, ◌++◌}
 use Rattle.hop_base.specs.declared.part.Part.{Part}
 use Rattle.hop_base.specs.declared.value.Pair.{Pair}
 use Rattle.hop_base.specs.Meaning.{Meaning}
 use Rattle.hop_laws.specs.Partition.{of_partition}
 use Rattle.hop_laws.specs.Stands.{combined_pairs}
 use Rattle.hop_run.specs.Runs.{RunValue}
-
--- the list of each partition has its pairs more
-pub record Scatters (old : List (List Pair)) (pairs : List Pair) (new : List (List Pair)) : Type 0 where
-  pub same : length new ≡ length old
-  pub each : (p : ℕ) → p < length old → slice_index_or new p [] ≡ slice_index_or old p [] ++ of_partition p (length old) pairs
 
 -- the list of one partition has its pairs more, and its number and how many there are stay
 pub record Keeps (p r : ℕ) (old : List Pair) (pairs : List Pair) (p' r' : ℕ) (new : List Pair) : Type 0 where

@@ -1,7 +1,6 @@
 //! The runs of a part in all partitions.
-ghost use Rattle.std.specs.Prelude.{◌≡◌, ◌<◌, ◌≤◌, ℕ, All, IfOk, map, slice_index_or};
+ghost use Rattle.std.specs.Prelude.{◌≡◌, ◌<◌, ◌≤◌, ℕ, IfOk, map, slice_index_or};
 ghost use Rattle.std.specs.List.{range_with_len};
-ghost use Rattle.hop_base.specs.Order.{IsValidPair};
 ghost use Rattle.hop_laws.specs.Blocking.{part_pairs};
 ghost use Rattle.hop_records.specs.Records.{splits_of, len_of};
 ghost use Rattle.hop_run.specs.Runs.{combined_run};
@@ -20,6 +19,10 @@ impl Run {
 
     /// The combined runs of a part, one for each of the `r` partitions, 1 to 8 of them. The part lies in
     /// a split of the book, as for `make`.
+    ///
+    /// The records are mapped once. Where the job tells what two numbers of a key come to, a number is joined to one
+    /// of its key as it comes, so that about as many pairs are put in order as there are keys; the runs are the same
+    /// as those of all pairs.
     pub fn make_all<J: Job>(
         alloc: Global,
         job: &J,
@@ -38,7 +41,7 @@ impl Run {
         ensures stands { IfOk result (λ runs. (p : ℕ) → p < r → RunStands (J.meaning job.now).reduced (part_pairs (J.meaning job.now) book.now.records book.now.split p r) (slice_index_or runs p empty_run)) }
     {
         let _known = book.records();
-        let mut scattered = Scattered::new(alloc, r)?;
+        let mut scattered = Scattered::new(alloc, job, r)?;
         map_part(alloc, job, book, part, &mut scattered)?;
         let runs = combine_lists(alloc, job, scattered.lists, part)?;
         Ok(runs)
@@ -52,7 +55,6 @@ fn combine_lists<J: Job>(
     lists: Vec<Gathered>,
     part: Part,
 ) -> Result<Runs, NoMemory>
-    requires { All (λ ps. All IsValidPair ps) lists.items }
     ensures { IfOk result (λ runs. runs ≡ map (combined_list (J.meaning job.now) part) lists.items) }
 {
     let mut runs = Listed::new(alloc);
@@ -64,7 +66,6 @@ fn combine_lists<J: Job>(
 
 // The combined run of the pairs of a partition.
 fn combined<J: Job>(alloc: Global, job: &J, mut list: Gathered, part: Part) -> Result<Run, NoMemory>
-    requires { All IsValidPair list }
     ensures { IfOk result (λ run. run ≡ combined_list (J.meaning job.now) part list) }
 {
     let mut builder = FlatSheetBuilder::new(alloc);

@@ -1,45 +1,87 @@
 //! Sinks that part the pairs of a job by the partitions of their keys.
-ghost use Rattle.std.specs.Prelude.{◌≡◌, ◌<◌, ◌≤◌, [], length, replicate, IfOk};
+ghost use Rattle.std.specs.Prelude.{◌≡◌, ◌<◌, ◌≤◌, ◌∷◌, [], length, replicate, IfOk, OnOk};
+ghost use Rattle.hop_base.specs.Fields.{pair_of};
+ghost use Rattle.hop_laws.specs.Stands.{StandsWith};
 
 use hop_base::NoMemory;
-use hop_laws::{Gathered, PairSink, partition};
+use hop_laws::{Gathered, Index, Job, PairSink, partition};
 use std::alloc::Global;
 
-// The pairs of each of 1 to 8 partitions.
+// The index has 2 to the power of so many slots of 8 bytes: some more than a spill has keys, and few, since they are
+// made anew for each spill.
+const INDEX_BITS: u32 = 12;
+
+// Pairs of each of 1 to 8 partitions, for a job. To combine, they stand for those that were taken: a number alone is
+// joined to one of its key where one is found, so that few are put in order.
 #[derive(Drop)]
-pub(crate) struct Scattered {
+pub(crate) struct Scattered<'a, J> {
+    job: &'a J,
     pub(crate) lists: Vec<Gathered>,
+    index: Index,
     ghost some: { 1 ≤ length lists.items },
     ghost few: { length lists.items ≤ 8 },
 }
 
-impl Scattered {
+impl<'a, J: Job> Scattered<'a, J> {
     // No pairs of each of `r` partitions.
-    pub(crate) fn new(alloc: Global, r: u8) -> Result<Scattered, NoMemory>
+    pub(crate) fn new(alloc: Global, job: &'a J, r: u8) -> Result<Scattered<'a, J>, NoMemory>
         requires some { 1 ≤ r }
         requires few { r ≤ 8 }
-        ensures { IfOk result (λ made. made.lists.items ≡ replicate r []) }
+        ensures empty { IfOk result (λ made. made.lists.items ≡ replicate r []) }
+        ensures job { IfOk result (λ made. made.job.now ≡ job.now) }
     {
         let lists = empty_lists(alloc, r)?;
-        Ok(Scattered { lists })
+        let index = Index::new(alloc, INDEX_BITS)?;
+        Ok(Scattered { job, lists, index })
     }
 }
 
-impl PairSink for Scattered {
-    ghost use Rattle.hop_run.specs.Scattering.{Scatters};
-    ghost use Rattle.hop_run.specs.ScatteringLaws.{scatters_none, scatters_more};
+impl<J: Job> PairSink for Scattered<'_, J> {
+    ghost use Rattle.std.specs.Prelude.{◌≡◌, refl};
+    ghost use Rattle.std.proofs.Common.{ap, ◌∙◌};
+    ghost use Rattle.hop_laws.specs.Taking.{TakesIn};
+    ghost use Rattle.hop_laws.specs.TakingLaws.{none_taken, more_taken_by};
 
-    ghost takes = { λ s ps t. Scatters s.lists.items ps t.lists.items };
+    ghost takes = { λ s ps t. (t.job.now ≡ s.job.now) × TakesIn (J.meaning s.job.now).combined s.lists.items ps t.lists.items };
 
-    ghost takes_none = { λ s. scatters_none s.lists.items };
+    ghost takes_none = { λ s. (refl, none_taken (J.meaning s.job.now).combined s.lists.items) };
 
-    ghost takes_more = { λ s t u ps qs h k. scatters_more s.lists.items t.lists.items u.lists.items ps qs h k };
+    ghost takes_more = { λ s t u ps qs h k. (k.0 ∙ h.0, more_taken_by (J.meaning s.job.now).combined (J.meaning t.job.now).combined s.lists.items t.lists.items u.lists.items ps qs (ap (λ j. (J.meaning j).combined) h.0) h.1 k.1) };
 
     fn take(&mut self, key: &[u8], number: u64, text: &[u8]) -> Result<(), NoMemory> {
         let p = partition(key, self.lists.len() as u8);
-        self.lists[p as usize].take(key, number, text)?;
+        add(
+            self.job,
+            &mut self.index,
+            &mut self.lists[p as usize],
+            key,
+            number,
+            text,
+        )?;
         Ok(())
     }
+}
+
+// One more pair. A number alone is joined to one of its key, where one is found.
+fn add<J: Job>(
+    job: &J,
+    index: &mut Index,
+    list: &mut Gathered,
+    key: &[u8],
+    number: u64,
+    text: &[u8],
+) -> Result<(), NoMemory>
+    requires short_key { length key.now ≤ 131071 }
+    requires short_text { length text.now ≤ 131071 }
+    ensures { OnOk result (StandsWith (J.meaning job.now).combined list.old (pair_of key.now number text.now ∷ []) list.new) }
+{
+    if text.is_empty() {
+        if index.join(job, list, key, number) {
+            return Ok(());
+        }
+    }
+    list.take(key, number, text)?;
+    Ok(())
 }
 
 // No pairs of each of r partitions.

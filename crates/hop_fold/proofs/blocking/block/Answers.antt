@@ -2,7 +2,8 @@ use Rattle.std.proofs.Common.{◌≡◌, ◌+◌, ◌<◌, ℕ, List, [], ◌∷
 use Rattle.std.proofs.lemmas.List.{take_more, take_all}
 use Rattle.std.proofs.lemmas.Option.{get_or_from_slice_get}
 use Rattle.hop_base.specs.declared.value.Val.{Val}
-use Rattle.hop_fold.specs.Gathering.{TakesIn, Gathers}
+use Rattle.hop_laws.specs.Taking.{TakesIn}
+use Rattle.hop_fold.specs.Gathering.{Gathers}
 use Rattle.hop_fold.proofs.Standing.{gathers_more, texts_gathered}
 use Rattle.hop_fold.proofs.blocking.block.Goals as goal
 

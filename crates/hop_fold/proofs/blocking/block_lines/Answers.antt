@@ -6,7 +6,8 @@ use Rattle.std.proofs.lemmas.List.Elements.{All-head, All-tail}
 use Rattle.std.proofs.lemmas.Bool.{eqb-true}
 use Rattle.hop_base.specs.declared.value.Val.{Val}
 use Rattle.hop_records.specs.Records.{records_of}
-use Rattle.hop_fold.specs.Gathering.{TakesIn, Gathers}
+use Rattle.hop_laws.specs.Taking.{TakesIn}
+use Rattle.hop_fold.specs.Gathering.{Gathers}
 use Rattle.hop_fold.proofs.Standing.{gathers_none, gathers_more, texts_gathered}
 use Rattle.hop_fold.proofs.blocking.block_lines.Goals as goal
 

@@ -6,4 +6,4 @@ use Rattle.hop_run.proofs.making.combined.Goals as goal
 pub finish-requires : goal.finish-requires
 finish-requires g c =
     let meaning = g.J.Job.meaning c.args.job.now in
-    sorted_given _ _ _ c.new-builder.ensures c.in_ok-combined_into.ensures.given (combined_sorted meaning.combined c.args.list (g.met.J.Job.lawful c.args.job.now).combines_well c.requires)
+    sorted_given _ _ _ c.new-builder.ensures c.in_ok-combined_into.ensures.given (combined_sorted meaning.combined c.args.list (g.met.J.Job.lawful c.args.job.now).combines_well c.in_ok-combined_into.ensures.valid)

@@ -3,8 +3,8 @@ use Rattle.std.proofs.lemmas.List.{get_or_default}
 use Rattle.hop_base.specs.declared.value.Pair.{Pair}
 use Rattle.hop_laws.specs.Partition.{partition_of}
 use Rattle.hop_base.specs.Fields.{pair_of}
-use Rattle.hop_fold.specs.Gathering.{StandsWith}
-use Rattle.hop_fold.proofs.Standing.{taken_one}
+use Rattle.hop_laws.specs.Stands.{StandsWith}
+use Rattle.hop_laws.proofs.TakenLaws.{taken_one}
 use Rattle.hop_fold.proofs.lists.ListsPairSink.take.Goals as goal
 
 -- the pair joined the list of its partition
