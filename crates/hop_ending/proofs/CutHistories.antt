@@ -2,12 +2,12 @@
 use Rattle.std.proofs.Common.{◌≡◌, ◌≢◌, ℕ, ◌≤◌, ◌<◌, Bool, true, List, [], ◌∷◌, ◌++◌, append-nil, map, refl, sym, ap, ◌∙◌, subst, inr, ⊎_elim, Option, Some, None, arith}
 use Rattle.std.specs.List.{slice_get}
 use Rattle.hop_event.specs.declared.event.Event.{Event}
-use Rattle.hop_machine.specs.step.Steps.{Setup}
+use Rattle.hop_machine.specs.step.Steps.{Deeds, Setup}
 use Rattle.hop_machine.specs.actors.ReducerTurns.{Reducer, cut_after, marks_due}
 use Rattle.hop_machine.specs.home.Said.{history_of}
 use Rattle.hop_machine.specs.home.ReducerHome.{IsSetup, CutsSent, cuts_of, cuts_from, due_of}
-use Rattle.hop_machine.specs.play.Play.{Place, Emptying, Over, Halted, World, Went}
-use Rattle.hop_machine.specs.run.AllHome.{Settled, RanToItsEnd}
+use Rattle.hop_machine.specs.play.Play.{Actors, Place, Emptying, Over, Halted, World, Went}
+use Rattle.hop_machine.specs.run.AllHome.{AllHome, AllNoneDue, RanToItsEnd}
 use Rattle.hop_machine.proofs.play.Plays.{went_both, went_same}
 use Rattle.hop_machine.proofs.reducer.CutLaws.{cuts-first, cuts-more}
 use Rattle.hop_machine.proofs.run.AnyTurn.{none_there}
@@ -34,26 +34,27 @@ puts_on e from at a b w not put =
 pub follows_on : (from at : Place) (a b : World) → Went true (from, a) (at, b) → CutsFollow a.deeds → CutsFollow b.deeds
 follows_on from at a b w follow p l = went_follows p (from, a) (at, b) w (follow p (subst (λ (s : Setup). p < s.reducers) (went_same true (from, a) (at, b) w) l))
 
--- # A run that is settled
+-- # Where all are at home
 
-module _ (x : World) (z : Settled x.actors x.deeds) (p : ℕ) (l : p < x.deeds.setup.reducers) where
-  reducer_cuts : (o : Option Reducer) → slice_get x.actors.reducers p ≡ o → CutsSent x.deeds.setup (history_of x.deeds p) (due_of x.deeds p) (x.deeds.did.cut_outs p).sent
-  reducer_cuts None g = absurd (none_there x.actors.reducers p g (let n = z.ends.home.reducers in omega (arith, n, l)))
+module _ (x : Actors) (d : Deeds) (home : AllHome x d) (none : AllNoneDue d) (p : ℕ) (l : p < d.setup.reducers) where
+  reducer_cuts : (o : Option Reducer) → slice_get x.reducers p ≡ o → CutsSent d.setup (history_of d p) (due_of d p) (d.did.cut_outs p).sent
+  reducer_cuts None g = absurd (none_there x.reducers p g (let n = home.reducers in omega (arith, n, l)))
   reducer_cuts (Some r) g =
-      let h = z.ends.home.reducer p r g in
-      subst (λ q. CutsSent x.deeds.setup (history_of x.deeds q) (due_of x.deeds q) (x.deeds.did.cut_outs q).sent) h.number h.home.cuts
+      let h = home.reducer p r g in
+      subst (λ q. CutsSent d.setup (history_of d q) (due_of d q) (d.did.cut_outs q).sent) h.number h.home.cuts
 
-  settled_sent : (x.deeds.did.cut_outs p).sent ≡ cuts_of x.deeds.setup (history_of x.deeds p)
-  settled_sent =
-      let c = reducer_cuts (slice_get x.actors.reducers p) refl in
-      let sent = (x.deeds.did.cut_outs p).sent in
-      sym (append-nil sent) ∙ ap (λ marks. sent ++ map (cut_after x.deeds.setup (history_of x.deeds p)) marks) (sym (z.ends.none p l)) ∙ c.sent_are
+  -- where no cut is due all were sent
+  pub home_sent : (d.did.cut_outs p).sent ≡ cuts_of d.setup (history_of d p)
+  home_sent =
+      let c = reducer_cuts (slice_get x.reducers p) refl in
+      let sent = (d.did.cut_outs p).sent in
+      sym (append-nil sent) ∙ ap (λ marks. sent ++ map (cut_after d.setup (history_of d p)) marks) (sym (none p l)) ∙ c.sent_are
 
 -- # A whole run
 
 module _ (e : Bool) (from : Place) (a d : World) (z : RanToItsEnd e from a d) where
   pub run_sent : (p : ℕ) → p < d.deeds.setup.reducers → (d.deeds.did.cut_outs p).sent ≡ cuts_of d.deeds.setup (history_of d.deeds p)
-  run_sent p l = settled_sent d (ends_settled e from a d z) p l
+  run_sent p l = let h = (ends_settled e from a d z).ends in home_sent d.actors d.deeds h.home h.none p l
 
   pub run_took : (p : ℕ) → p < d.deeds.setup.reducers → (d.deeds.did.cut_ins p).taken ≡ cuts_from p d.actors.writer.writings
   run_took p l = (ends_settled e from a d z).ends.home.writer.took p l

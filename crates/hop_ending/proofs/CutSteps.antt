@@ -14,7 +14,7 @@ use Rattle.hop_ending.specs.Cuts.{HasPut}
 
 module _ {A : Type 0} where
   -- what is left of a list behind its beginning
-  left_behind : (xs ys : List A) → Begins xs ys → (more : List A) × (ys ≡ xs ++ more) × (drop (length xs) ys ≡ more)
+  pub left_behind : (xs ys : List A) → Begins xs ys → (more : List A) × (ys ≡ xs ++ more) × (drop (length xs) ys ≡ more)
   left_behind xs ys b = (b.0, b.1, ap (drop (length xs)) b.1 ∙ drop-append_seam xs b.0)
 
   pub took_more : (x : Taken A) (ys : List A) (o : Option A) → Begins x.taken ys → o ≡ first (drop (length x.taken) ys) → Begins (taking o x).taken ys

@@ -4,5 +4,6 @@
 
 pub mod cut_laws;
 pub mod number_laws;
+pub mod reach_laws;
 pub mod spent_laws;
 pub mod worker_laws;
