@@ -4,9 +4,10 @@ ghost use Rattle.hop_machine.specs.actors.ReducerTurns.{Writer};
 ghost use Rattle.hop_machine.specs.home.Conditions.{HasAll, HasWriter};
 ghost use Rattle.hop_machine.specs.play.Play.{Went, Listed, Emptying, Pulling, Writing, Over};
 ghost use Rattle.hop_machine.specs.run.AllHome.{IsAtPlace, Pulls, RanToItsEnd};
+ghost use Rattle.hop_ending.specs.Cuts.{HasPut};
 ghost use Rattle.hop_settle.specs.Crews.{actors_of, world_of, AreWell, IsSized, TurnsBelow};
 ghost use Rattle.hop_settle.specs.Lacking.{HasReducers};
-ghost use Rattle.hop_settle.specs.Settled.{WorkedOff};
+ghost use Rattle.hop_settle.specs.Settled.{AllCutsTaken, WorkedOff};
 ghost use Rattle.hop_settle.specs.Stops.{place_after, StoresStop, CrewStops};
 
 use crate::begun::count_begun;
@@ -19,6 +20,7 @@ use crate::settling::passes;
 use crate::writing::write_all;
 use hop_actors::{Fault, SnapshotWriter, Store, Taker};
 use hop_base::RunName;
+use hop_ending::cut_laws::cut_lanes_are_emptied;
 use hop_inner::Reach;
 use hop_machine::meeting_laws::ends_are_gathered;
 
@@ -105,12 +107,16 @@ pub fn settle<N: RunName, E: Reach<N>, M: Store<N, E>, D: Taker<N, E>, W: Snapsh
     ensures ran { OnOk result (RanToItsEnd E.exact (Listed []) (world_of (map M.mapper mappers.old.items) (map D.reducer reducers.old.items) (W.writer writer.old) (E.deeds reach.old))
         (world_of (map M.mapper mappers.new.items) (map D.reducer reducers.new.items) (W.writer writer.new) (E.deeds reach.new))) }
     ensures ends { OnOk result (HasReducers (E.deeds reach.new)) }
+
+    // Also the cut lanes are empty then, where the writer put all that it took before.
+    ensures cuts { OnOk result (HasPut (W.writer writer.old) (E.deeds reach.old).setup → AllCutsTaken (E.deeds reach.new)) }
     ensures count { (length mappers.new.items ≡ length mappers.old.items) × (length reducers.new.items ≡ length reducers.old.items) }
     ensures well { OnOk result (AreWell M.failed M.fits (E.deeds reach.new).ends.board mappers.new.items) }
     ensures counts { OnOk result ((map M.counts mappers.new.items ≡ map M.counts mappers.old.items) × (W.counts writer.new ≡ W.counts writer.old)) }
     ensures cause { IfErr result (CrewStops (map M.counts mappers.old.items) (map M.counts mappers.new.items) (W.counts writer.old) (W.counts writer.new)) }
 {
     pulls_may_begin();
+    cut_lanes_are_emptied();
     let partitions = reducers.len() as u8;
     work_off(mappers, reducers, reach)?;
     finish_all(mappers, reducers, reach)?;

@@ -6,6 +6,7 @@ use Rattle.hop_machine.proofs.play.Plays.{went_both, went_same}
 use Rattle.hop_machine.proofs.run.Ending.{went_pulling}
 use Rattle.hop_machine.proofs.home.Here.{reducer_kept}
 use Rattle.hop_actors.specs.declared.fault.Fault.{Fault}
+use Rattle.hop_ending.specs.Cuts.{HasPut}
 use Rattle.hop_settle.specs.Crews.{world_of, AreWell, IsSized}
 use Rattle.hop_settle.specs.Stops.{place_after}
 use Rattle.hop_settle.proofs.DrainLaws.{fault_place, not_below}
@@ -120,3 +121,17 @@ returns-clause-ends g c = λ p inside.
     c.meet_cuts-2.ensures.learns.setup ∙ went_same e (Writing, F) (Over, G) (c.in_ok-write_all.ensures.went ns us) ∙ c.meet_cuts.ensures.learns.setup ∙ went_same e (Pulling 0 0, B) (Writing, D) (c.in_ok-finish_all.ensures.went x) in
     reducer_kept p (E.deeds n.new.reach) (E.deeds c.meet_cuts-2.new.reach) same (c.meet_cuts-2.ensures.ends ∙ q.ensures.ends ∙ c.meet_cuts.ensures.ends ∙ m.ensures.ends)
     (c.in_ok-work_off.ensures.ends.0 p (subst (λ (s : Setup). p < s.reducers) same inside))
+
+pub returns-clause-cuts : goal.returns-clause-cuts
+returns-clause-cuts g c = λ put p inside.
+    let E = g.E.Reach in let e = E.exact in let k = g.M.Store.mapper in let f = g.D.Taker.reducer in let z = g.W.SnapshotWriter.writer in let n = c.work_off in let m = c.finish_all in let q = c.write_all in let x = z c.args.writer.now in
+    let A : World = world_of (map k c.args.mappers.now.items) (map f c.args.reducers.now.items) x (E.deeds c.args.reach.now) in let B : World = world_of (map k n.new.mappers.items) (map f n.new.reducers.items) x (E.deeds n.new.reach) in
+    let ns = map k m.new.mappers.items in let us = map f m.new.reducers.items in let y = z q.new.writer in
+    let D : World = world_of ns us x (E.deeds m.new.reach) in let F : World = world_of ns us x (E.deeds c.meet_cuts.new.reach) in let G : World = world_of ns us y (E.deeds q.new.reach) in let H : World = world_of ns us y (E.deeds c.meet_cuts-2.new.reach) in
+    let before : F.deeds.setup ≡ A.deeds.setup =
+    c.meet_cuts.ensures.learns.setup ∙ went_same e (Pulling 0 0, B) (Writing, D) (c.in_ok-finish_all.ensures.went x) ∙ went_same e (Listed [], A) (Emptying (length c.args.reducers.now.items), B) (c.in_ok-work_off.ensures.went x) in
+    let last : Went e (Writing, F) (Over, H) = went_both e (Writing, F) (Over, G) (Over, H) (c.in_ok-write_all.ensures.went ns us) (told-went e Over ns us y (E.deeds q.new.reach) (E.deeds c.meet_cuts-2.new.reach) c.meet_cuts-2.ensures.learns) in
+    let after : H.deeds.setup ≡ F.deeds.setup = went_same e (Writing, F) (Over, H) last in
+    let own = subst (λ (s : Setup). p < s.reducers) (after ∙ before) inside in
+    let few : p < c.len-partitions.result = let all = c.requires.home.home.reducers in let n = length-map c.args.reducers.now.items f in let len = c.len-partitions.ensures in omega (arith, own, all, n, len) in
+    c.cut_lanes_are_emptied.ensures.met e F H (subst (λ (s : Setup). HasPut x s) (sym before) put) last p inside (c.meet_cuts.ensures.met p few) (c.meet_cuts-2.ensures.met p few)
