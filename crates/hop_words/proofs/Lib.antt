@@ -3,4 +3,5 @@ pub mod ClapAgrees
 pub mod ClapRules
 pub mod ClapRows
 pub mod ClapWalk
+pub mod MarksLaws
 pub mod NumberLaws

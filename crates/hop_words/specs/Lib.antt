@@ -1,4 +1,5 @@
 pub mod Clap
+pub mod Marks
 pub mod Names
 pub mod Numbers
 pub mod Options

@@ -10,9 +10,10 @@ use Rattle.hop_jobs.specs.Max.{max_meaning}
 use Rattle.hop_jobs.specs.Sum.{sum_meaning}
 use Rattle.hop_jobs.specs.Top.{top_meaning}
 use Rattle.hop_jobs.specs.Wc.{wc_meaning}
+use Rattle.hop_words.specs.Marks.{marks_in, yes_or_no_in}
 use Rattle.hop_words.specs.Names.{is_name, name_in}
 use Rattle.hop_words.specs.Scan.{Scanned, is_known, scan, values_given}
-use Rattle.hop_words.specs.Table.{NumberOption, attempts_option, job_options, k_option, lane_option, number_in_row, option_names, reducers_option, run_options, script_option, spill_option, split_option, turn_options, turns_option, workers_option}
+use Rattle.hop_words.specs.Table.{NumberOption, attempts_option, job_options, k_option, lane_option, marks_option, number_in_row, option_names, reducers_option, run_options, script_option, spill_option, split_option, tentative_option, turn_options, turns_option, workers_option}
 use Rattle.hop_words.specs.declared.options.Command.{Command}
 use Rattle.hop_words.specs.declared.options.Command.TheVariants.{Block, Run, Replay}
 use Rattle.hop_words.specs.declared.options.Options.{Options}
@@ -86,16 +87,22 @@ Given = List ℕ → List (List ℕ)
 abbrev pub with_number : {A : Type 0} → Given → NumberOption → (ℕ → Option A) → Option A
 with_number given row next = option_and_then next (number_in_row row (given row.name))
 
--- the settings, where each is in its range
-abbrev pub settings_asked : Given → Option RunSettings
-settings_asked given =
+-- the settings with these two, where each number is in its range
+abbrev pub numbers_asked : Given → Bool → List ℕ → Option RunSettings
+numbers_asked given tentative marks =
     with_number given reducers_option (λ reducers.
     with_number given split_option (λ split.
     with_number given spill_option (λ spill.
     with_number given workers_option (λ workers.
     with_number given attempts_option (λ attempts.
     with_number given lane_option (λ lane.
-    Some (record default_settings { reducers = reducers; split = split; spill = spill; workers = workers; attempts = attempts; lane = lane })))))))
+    Some (record default_settings { reducers = reducers; split = split; spill = spill; workers = workers; attempts = attempts; lane = lane; tentative = tentative; marks = marks })))))))
+
+-- the settings, where each is in its range
+abbrev pub settings_asked : Given → Option RunSettings
+settings_asked given =
+    option_and_then (λ tentative. option_and_then (λ marks. numbers_asked given tentative marks) (marks_in (given marks_option)))
+    (yes_or_no_in true (given tentative_option))
 
 -- the options that a command takes
 abbrev pub options_taken : Asked → List (List ℕ)

@@ -37,6 +37,14 @@ attempts_option = record { name = codes "attempts"; least = 1; most = 16; defaul
 abbrev pub lane_option : NumberOption
 lane_option = record { name = codes "lane"; least = 1; most = 64; default = 2 }
 
+-- the option of the marks
+abbrev pub marks_option : List ℕ
+marks_option = codes "marks"
+
+-- whether snapshots cover tentative data
+abbrev pub tentative_option : List ℕ
+tentative_option = codes "tentative"
+
 -- the option that names the fault script
 abbrev pub script_option : List ℕ
 script_option = codes "script"
@@ -51,7 +59,7 @@ job_options = k_option.name ∷ reducers_option.name ∷ []
 
 -- those of a run
 abbrev pub run_options : List (List ℕ)
-run_options = split_option.name ∷ spill_option.name ∷ workers_option.name ∷ attempts_option.name ∷ lane_option.name ∷ script_option ∷ []
+run_options = split_option.name ∷ spill_option.name ∷ workers_option.name ∷ attempts_option.name ∷ lane_option.name ∷ marks_option ∷ tentative_option ∷ script_option ∷ []
 
 -- that of a run by a turn list
 abbrev pub turn_options : List (List ℕ)

@@ -3,6 +3,7 @@
 
 mod command;
 pub mod fault;
+mod marks;
 mod names;
 mod numbers;
 pub mod options;

@@ -63,6 +63,8 @@ fn command<'a>(alloc: Global) -> Result<Command<'a>, AllocError>
     let command = with_option(alloc, command, "workers")?;
     let command = with_option(alloc, command, "attempts")?;
     let command = with_option(alloc, command, "lane")?;
+    let command = with_option(alloc, command, "marks")?;
+    let command = with_option(alloc, command, "tentative")?;
     let command = with_option(alloc, command, "script")?;
     let command = with_option(alloc, command, "turns")?;
     command.arg(plain_words(alloc))

@@ -56,8 +56,9 @@ fn read_options<'a>(
     if !takes_all(&command, matches) {
         return Err(WordsFault::Usage);
     }
-    let Some(settings) = read_settings(alloc, matches) else {
-        return Err(WordsFault::Usage);
+    let settings = match read_settings(alloc, matches) {
+        Ok(settings) => settings,
+        Err(fault) => return Err(fault),
     };
     let script = match read_name(alloc, matches, "script") {
         Ok(script) => script,

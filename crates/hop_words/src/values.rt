@@ -4,9 +4,10 @@ ghost use Rattle.std.specs.Option.{option_map};
 ghost use Rattle.hop_words.specs.Clap.{given_in, texts_in};
 ghost use Rattle.hop_words.specs.Names.{name_in};
 ghost use Rattle.hop_words.specs.Numbers.{number_in};
-ghost use Rattle.hop_words.specs.Options.{NamesFile, is_unset, options_untaken, command_of, settings_asked, settings_of, takes_all};
+ghost use Rattle.hop_words.specs.Options.{NamesFile, is_unset, options_untaken, command_of, numbers_asked, settings_asked, settings_of, takes_all};
 
 use crate::fault::WordsFault;
+use crate::marks::{marks_in, yes_or_no_in};
 use crate::names::is_name;
 use crate::numbers::number_in;
 use crate::options::Command;
@@ -40,9 +41,9 @@ pub fn number<'a>(
     number_in(least, most, default, values(matches, name))
 }
 
-/// The settings that the options give; nothing where one isn't in its range.
-pub fn read_settings<'a>(alloc: Global, matches: &ArgMatches<'a>) -> Option<Settings>
-    ensures { option_map settings_of result ≡ settings_asked (given_in matches.now) }
+// The settings with these two; nothing where a number isn't in its range.
+fn read_numbers<'a>(matches: &ArgMatches<'a>, tentative: bool, marks: Marks) -> Option<Settings>
+    ensures { option_map settings_of result ≡ numbers_asked (given_in matches.now) tentative marks }
 {
     let reducers = number(matches, "reducers", 1, MAX_REDUCERS as u32, 1)?;
     let split = number(matches, "split", 1, MAX_RECORDS, 16_384)?;
@@ -60,9 +61,27 @@ pub fn read_settings<'a>(alloc: Global, matches: &ArgMatches<'a>) -> Option<Sett
         mergers: 1,
         threads: 4,
         backup: false,
-        tentative: true,
-        marks: Marks::new(alloc),
+        tentative,
+        marks,
     })
+}
+
+/// The settings that the options give. `Usage` comes exactly where one isn't in its range.
+pub fn read_settings<'a>(alloc: Global, matches: &ArgMatches<'a>) -> Result<Settings, WordsFault>
+    ensures settings { IfOk result (λ settings. settings_asked (given_in matches.now) ≡ Some (settings_of settings)) }
+    ensures usage { IsErrOf result WordsFault.Usage → settings_asked (given_in matches.now) ≡ None }
+{
+    let Some(tentative) = yes_or_no_in(true, values(matches, "tentative")) else {
+        return Err(WordsFault::Usage);
+    };
+    let marks = match marks_in(alloc, values(matches, "marks")) {
+        Ok(marks) => marks,
+        Err(fault) => return Err(fault),
+    };
+    match read_numbers(matches, tentative, marks) {
+        Some(settings) => Ok(settings),
+        None => Err(WordsFault::Usage),
+    }
 }
 
 /// The name of a file that an option gives, where it is given. `Usage` comes exactly where it is given twice, or is no
@@ -114,7 +133,15 @@ fn options_untaken(command: &Command) -> &'static [&'static str]
     match command {
         Command::Block { .. } => {
             &[
-                "split", "spill", "workers", "attempts", "lane", "script", "turns",
+                "split",
+                "spill",
+                "workers",
+                "attempts",
+                "lane",
+                "marks",
+                "tentative",
+                "script",
+                "turns",
             ]
         }
         Command::Run { .. } => &["turns"],
