@@ -1,16 +1,16 @@
 -- The spill folders of a run, by worker.
-use Rattle.std.proofs.Common.{◌≡◌, ◌≢◌, ◌⊎◌, inl, inr, ⊎_elim, ℕ, zero, suc, ◌≤◌, ◌<◌, true, false, List, [], ◌∷◌, length, map, Some, None, Option, slice_set, is_some, refl, sym, ap, ◌∙◌, subst, arith}
+use Rattle.std.proofs.Common.{◌≡◌, ◌≢◌, ◌⊎◌, inl, inr, ⊎_elim, ℕ, zero, suc, ◌≤◌, ◌<◌, false, List, [], ◌∷◌, length, map, Some, None, Option, slice_set, is_some, refl, sym, ap, ◌∙◌, subst, arith}
 use Rattle.std.specs.List.{slice_get}
 use Rattle.std.proofs.lemmas.Bool.{true≢false}
 use Rattle.std.proofs.lemmas.List.{length-map}
 use Rattle.std.proofs.lemmas.Option.{same_Some, slice_get_within}
 use Rattle.hop_base.specs.Files.{Files}
 use Rattle.hop_ports.specs.Views.{FolderView}
-use Rattle.hop_actors.specs.Counting.{Counts, PutFailed, GetFailed, StoreCause}
+use Rattle.hop_actors.specs.Counting.{Counts, PutFailed, GetFailed, StoreCause, WriterCause}
 use Rattle.hop_actors.specs.declared.fault.Fault.{Fault}
 use Rattle.hop_actors.specs.declared.fault.Fault.TheVariants as fault
 use Rattle.hop_machine.proofs.ending.Winners.{less_or_not}
-use Rattle.hop_settle.specs.Stops.{StoresStop}
+use Rattle.hop_settle.specs.Stops.{CrewStops, StoresStop}
 use Rattle.hop_settle.proofs.Lists.{map-at}
 use Rattle.hop_replay.specs.Folders.{counts_seen, SameCounts, CountRose, WorkerFaults, NamesWorker, NoneFailed, Stopped}
 
@@ -80,15 +80,32 @@ names workers v x y (fault.SpillDamaged worker at kept found) h l = let e = h.0 
 names workers v x y (fault.SpillCollides worker at place) h l = let e = h.0 in omega (arith, e, l)
 names workers v x y fault.NoMemory h l = tt
 
+-- where the writer's did, or memory was wanting
+names-writer : (workers : ℕ) (x y : Counts) (f : Fault) → WriterCause x y f → NamesWorker workers f
+names-writer workers x y (fault.SpentAt split) h = absurd h
+names-writer workers x y fault.FolderFailed h = tt
+names-writer workers x y (fault.SpillFailed worker) h = absurd h
+names-writer workers x y (fault.SpillDamaged worker at kept found) h = absurd h
+names-writer workers x y (fault.SpillCollides worker at place) h = absurd h
+names-writer workers x y fault.NoMemory h = tt
+
+at-writer : (w : ℕ) (a b : FolderView) (x y : Counts) (f : Fault) → WriterCause x y f → SameCounts a b → WorkerFaults w a b f
+at-writer w a b x y (fault.SpentAt split) h e = absurd h
+at-writer w a b x y fault.FolderFailed h e = e
+at-writer w a b x y (fault.SpillFailed worker) h e = absurd h
+at-writer w a b x y (fault.SpillDamaged worker at kept found) h e = absurd h
+at-writer w a b x y (fault.SpillCollides worker at place) h e = absurd h
+at-writer w a b x y fault.NoMemory h e = e
+
 module _ (workers : ℕ) (before after : List FolderView) where
   -- where memory was wanting
-  pub stopped-early : map counts_seen after ≡ map counts_seen before → (f : Fault) → f ≡ fault.NoMemory → Stopped workers (record { before = before; after = after }) f
+  stopped-early : map counts_seen after ≡ map counts_seen before → (f : Fault) → f ≡ fault.NoMemory → Stopped workers (record { before = before; after = after }) f
   stopped-early e f is =
       subst (λ (z : Fault). Stopped workers (record { before = before; after = after }) z) (sym is)
       (record { named = tt; each = λ w a b ga gb. none-failed before after e w a b ga gb })
 
   -- a run stops where a mapper did, or where memory was wanting
-  pub stopped-then : length before ≡ workers → (f : Fault) → StoresStop (map counts_seen before) (map counts_seen after) f → Stopped workers (record { before = before; after = after }) f
+  stopped-then : length before ≡ workers → (f : Fault) → StoresStop (map counts_seen before) (map counts_seen after) f → Stopped workers (record { before = before; after = after }) f
   stopped-then count f (inr h) = stopped-early h.1 f h.0
   stopped-then count f (inl h) = record {
     named = names workers h.worker h.before h.after f h.cause (let l = slice_get_within (map counts_seen before) h.worker h.before h.here in omega (arith, l, count, length-map before counts_seen));
@@ -103,3 +120,8 @@ module _ (workers : ℕ) (before after : List FolderView) where
         at-others w h.worker a b h.before h.after f h.cause n (same_Some (counts_seen b) (counts_seen a) (now ∙ set-else (map counts_seen before) h.worker w h.after n ∙ map-at counts_seen before w a ga)))
         (same-or-not w h.worker);
   }
+
+  -- or where the writer did
+  pub crew-stopped : length before ≡ workers → (f : Fault) (x y : Counts) → CrewStops (map counts_seen before) (map counts_seen after) x y f → Stopped workers (record { before = before; after = after }) f
+  crew-stopped count f x y (inl h) = stopped-then count f h.0
+  crew-stopped count f x y (inr h) = record { named = names-writer workers x y f h.0; each = λ w a b ga gb. at-writer w a b x y f h.0 (none-failed before after h.1 w a b ga gb) }

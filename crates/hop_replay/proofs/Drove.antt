@@ -1,9 +1,10 @@
 -- A run that came to its end, in the words of what it was given.
-use Rattle.std.proofs.Common.{◌≡◌, ℕ, ◌<◌, Bool, true, false, IsTrue, List, length, Some, slice_index, refl, sym, subst}
+use Rattle.std.proofs.Common.{◌≡◌, ℕ, ◌≤◌, ◌<◌, Bool, true, false, IsTrue, List, [], ◌++◌, length, map, Some, slice_index, refl, sym, subst}
 use Rattle.std.specs.List.{slice_get}
 use Rattle.hop_event.specs.declared.event.Event.{Event}
 use Rattle.hop_event.specs.Agreement.{history_at}
 use Rattle.hop_event.specs.Failing.{tries}
+use Rattle.hop_ending.specs.Cuts.{put_of, writings_of}
 use Rattle.hop_ending.specs.Doomed.{IsDoomedSplit}
 use Rattle.hop_laws.specs.Blocking.{blocking_texts}
 use Rattle.hop_machine.specs.step.Steps.{Setup, rules_of}
@@ -12,7 +13,7 @@ use Rattle.hop_machine.specs.actors.MapperTurns.{Mapper}
 use Rattle.hop_machine.specs.home.Said.{history_of}
 use Rattle.hop_machine.specs.play.Play.{Order, World, Opening, Over, NoneLeft, machine}
 use Rattle.hop_machine.specs.play.FirstState.{Plays, IsNew}
-use Rattle.hop_machine.specs.home.ReducerHome.{IsSetup}
+use Rattle.hop_machine.specs.home.ReducerHome.{IsSetup, cuts_of}
 use Rattle.hop_machine.specs.ending.Finishing.{AreBegun, AreHistories, AreSettled}
 use Rattle.hop_machine.specs.run.AllHome.{RanToItsEnd, mapper_of}
 use Rattle.hop_machine.proofs.play.Opened.{went-plays}
@@ -51,6 +52,11 @@ drove-in backup list a d set new same ran alone begun are hs them = record {
   kept = kept-so (Opening 0 list) a d ran begun are hs them;
 }
 
+-- what its writer put of each reducer, and then what is still in its cut lane, are the cuts of its history
+pub record LeavesCuts (s : Setup) (d : World) : Type 0 where
+  pub put : (p : ℕ) → p < s.reducers → writings_of p d.actors.writer.writings ++ map (put_of p) ((machine d).shared.cuts p) ≡ map (put_of p) (cuts_of s (history_of d.deeds p))
+  pub others : (p : ℕ) → s.reducers ≤ p → writings_of p d.actors.writer.writings ≡ []
+
 module _ (g : Given) where
   -- the same, as its callers say it
   pub drove-so : (tells : Bool) (d : World) (begun : List ℕ) (hs : List (List Event)) (texts : List (List ℕ)) → DroveIn (setup_given g) g.settings.backup (orders_of g.turns) d begun hs
@@ -68,7 +74,7 @@ module _ (g : Given) where
     blocking = told;
   }
 
-  pub spent-in : (s : Setup) → s ≡ setup_given g → (d : World) (split : ℕ) → Plays s g.settings.backup (orders_of g.turns) (NoneLeft split, machine d) × IsDoomedSplit s split → IsSpent g split
-  spent-in s same d split h =
-      let k = subst (λ (s : Setup). Plays s g.settings.backup (orders_of g.turns) (NoneLeft split, machine d) × IsDoomedSplit s split) same h in
-      record { end = machine d; play = k.0; is_split = k.1.is_split; doomed = k.1.doomed }
+  pub spent-in : (s : Setup) → s ≡ setup_given g → (d : World) (split : ℕ) → Plays s g.settings.backup (orders_of g.turns) (NoneLeft split, machine d) × IsDoomedSplit s split → LeavesCuts s d → IsSpent g split d.actors.writer.writings
+  spent-in s same d split h cuts =
+      let k = subst (λ (s : Setup). (Plays s g.settings.backup (orders_of g.turns) (NoneLeft split, machine d) × IsDoomedSplit s split) × LeavesCuts s d) same (h, cuts) in
+      record { end = machine d; play = k.0.0; is_split = k.0.1.is_split; doomed = k.0.1.doomed; put = k.1.put; others = k.1.others }

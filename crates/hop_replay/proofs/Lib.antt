@@ -3,9 +3,11 @@ pub mod Counted
 pub mod Delays
 pub mod Drove
 pub mod GoingOn
-pub mod Replayed
 pub mod Restoring
+pub mod RunEnds
 pub mod Sizes
+pub mod Snapped
 pub mod Starts
 pub mod Stopping
 pub mod Whole
+pub mod Wrote

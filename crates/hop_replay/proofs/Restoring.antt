@@ -1,5 +1,5 @@
 -- The spill folders of a run, from the mappers that own them back to their list.
-use Rattle.std.proofs.Common.{◌≡◌, ◌≢◌, ◌⊎◌, inl, inr, ⊎_elim, ℕ, zero, suc, Bool, true, false, List, [], ◌∷◌, ◌++◌, length, map, Some, None, Option, Result, Ok, Err, slice_set, is_some, refl, sym, ap, ◌∙◌, subst, append-nil}
+use Rattle.std.proofs.Common.{◌≡◌, ◌≢◌, inl, inr, ⊎_elim, ℕ, Bool, List, [], ◌∷◌, ◌++◌, map, Some, None, Option, Result, Ok, Err, is_some, refl, sym, ap, ◌∙◌, subst, append-nil}
 use Rattle.std.specs.Prelude.{slice_index_or, IfSome, IfOk, IfErr, OnOk}
 use Rattle.std.specs.List.{slice_get}
 use Rattle.std.proofs.lemmas.Option.{same_Some}
@@ -9,12 +9,12 @@ use Rattle.hop_actors.specs.Counting.{Counts, PutFailed, GetFailed, StoreCause}
 use Rattle.hop_actors.specs.Spilled.{OnlySpills}
 use Rattle.hop_actors.specs.declared.fault.Fault.{Fault}
 use Rattle.hop_actors.specs.declared.fault.Fault.TheVariants as fault
-use Rattle.hop_settle.specs.Stops.{StoresStop, StoreStopped}
+use Rattle.hop_settle.specs.Stops.{CrewStops, StoresStop}
 use Rattle.hop_settle.proofs.Lists.{map-at}
 use Rattle.hop_start.specs.Given.{AreSpillFolders}
-use Rattle.hop_replay.specs.Folders.{counts_seen, OnlySpillsPut, Spilling}
+use Rattle.hop_replay.specs.Folders.{counts_seen, OnlySpillsPut}
 use Rattle.hop_replay.proofs.Counted.{set-here, set-else, same-or-not}
-use Rattle.hop_replay.proofs.Replayed.{at-back}
+use Rattle.hop_replay.proofs.RunEnds.{at-back}
 
 -- # Results
 
@@ -34,6 +34,10 @@ module _ {A B : Type 0} where
   pub ok-with : {P : Type 0} {Q R : A → Type 0} (r : Result A B) → ((a : A) → P → Q a → R a) → OnOk r P → IfOk r Q → IfOk r R
   ok-with (Ok a) f h k = f a h k
   ok-with (Err b) f h k = k
+
+  pub err-with : {P Q R : B → Type 0} (r : Result A B) → ((b : B) → P b → Q b → R b) → IfErr r P → IfErr r Q → IfErr r R
+  err-with (Ok a) f h k = h
+  err-with (Err b) f h k = f b h k
 
 -- # Lists of lists
 
@@ -67,9 +71,13 @@ stopped-tells cs ds f (inl h) w c d gc gd =
     let same : d ≡ c = same_Some d c (sym gd ∙ ap (λ (l : List Counts). slice_get l w) h.now ∙ set-else cs h.worker w h.after (λ e. n (sym e)) ∙ gc) in
     ap (λ (k : Counts). k.tells) same) (same-or-not h.worker w)
 
-pub keeps-telling : {A : Type 0} (r : Result A Fault) (cs ds : List Counts) → OnOk r (ds ≡ cs) → IfErr r (StoresStop cs ds) → (w : ℕ) (c d : Counts) → slice_get cs w ≡ Some c → slice_get ds w ≡ Some d → d.tells ≡ c.tells
-keeps-telling (Ok a) cs ds ok err = same-tells cs ds ok
-keeps-telling (Err f) cs ds ok err = stopped-tells cs ds f err
+crew-tells : (cs ds : List Counts) (x y : Counts) (f : Fault) → CrewStops cs ds x y f → (w : ℕ) (c d : Counts) → slice_get cs w ≡ Some c → slice_get ds w ≡ Some d → d.tells ≡ c.tells
+crew-tells cs ds x y f (inl h) = stopped-tells cs ds f h.0
+crew-tells cs ds x y f (inr h) = same-tells cs ds h.1
+
+pub keeps-telling : {A : Type 0} (r : Result A Fault) (cs ds : List Counts) (x y : Counts) → OnOk r (ds ≡ cs) → IfErr r (CrewStops cs ds x y) → (w : ℕ) (c d : Counts) → slice_get cs w ≡ Some c → slice_get ds w ≡ Some d → d.tells ≡ c.tells
+keeps-telling (Ok a) cs ds x y ok err = same-tells cs ds ok
+keeps-telling (Err f) cs ds x y ok err = crew-tells cs ds x y f err
 
 -- # Only files of spills
 

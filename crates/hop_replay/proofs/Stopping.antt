@@ -1,5 +1,5 @@
 -- Where and why a run stopped.
-use Rattle.std.proofs.Common.{◌≡◌, inl, inr, ℕ, Bool, true, false, List, refl, ap, subst, arith}
+use Rattle.std.proofs.Common.{◌≡◌, ℕ, Bool, true, false, List, refl, ap, subst, arith}
 use Rattle.std.specs.Prelude.{All}
 use Rattle.std.proofs.lemmas.Option.{slice_get-get_or}
 use Rattle.hop_ending.specs.Doomed.{IsDoomedSplit}
@@ -11,37 +11,18 @@ use Rattle.hop_machine.proofs.play.Opened.{went-plays}
 use Rattle.hop_ending.proofs.Spent.{start_doomed}
 use Rattle.hop_actors.specs.declared.fault.Fault.{Fault}
 use Rattle.hop_actors.specs.declared.fault.Fault.TheVariants as fault
-use Rattle.hop_actors.specs.Counting.{Counts, WriterCause, no_folder}
 use Rattle.hop_settle.specs.Playing.{EndsAt}
-use Rattle.hop_settle.specs.Stops.{CrewStops, StoresStop}
 use Rattle.hop_settle.specs.Crews.{AreWell, TurnsBelow}
 use Rattle.hop_machine.specs.step.Steps.{Deeds}
 use Rattle.hop_machine.specs.actors.MapperTurns.{Mapper}
-use Rattle.hop_replay.proofs.GoingOn.{Ended}
-
-writer-memory : (a b : List Counts) (f : Fault) → WriterCause no_folder no_folder f → b ≡ a → StoresStop a b f
-writer-memory a b (fault.SpentAt split) h e = absurd h
-writer-memory a b fault.FolderFailed h e = let k = h.puts in absurd (omega (arith, k))
-writer-memory a b (fault.SpillFailed worker) h e = absurd h
-writer-memory a b (fault.SpillDamaged worker at kept found) h e = absurd h
-writer-memory a b (fault.SpillCollides worker at place) h e = absurd h
-writer-memory a b fault.NoMemory h e = inr (refl, e)
-
--- a writer without a folder stops for want of memory alone
-pub stores-only : (a b : List Counts) (f : Fault) → CrewStops a b no_folder no_folder f → StoresStop a b f
-stores-only a b f (inl h) = h.0
-stores-only a b f (inr h) = writer-memory a b f h.0 h.1
 
 -- where no attempt of a split is left the play ends so, and each attempt of it fails
-pub spent-so : (backup : Bool) (list : List Order) (a d : World) (f : Fault) (split : ℕ) → IsSetup a.deeds.setup → IsNew backup a → IsStart backup a.actors a.deeds → Ended true (Opening 0 list, a) d f → f ≡ fault.SpentAt split
+pub spent-so : (backup : Bool) (list : List Order) (a d : World) (f : Fault) (split : ℕ) → IsSetup a.deeds.setup → IsNew backup a → IsStart backup a.actors a.deeds → (at : Place) → Went true (Opening 0 list, a) (at, d) → EndsAt f at → f ≡ fault.SpentAt split
     → Plays a.deeds.setup backup list (NoneLeft split, machine d) × IsDoomedSplit a.deeds.setup split
-spent-so backup list a d f split set new start ended is =
-    let place : ended.0 ≡ NoneLeft split = subst (λ (z : Fault). EndsAt z ended.0) is ended.2 in
-    let went : Went true (Opening 0 list, a) (NoneLeft split, d) = subst (λ (q : Place). Went true (Opening 0 list, a) (q, d)) place ended.1 in
+spent-so backup list a d f split set new start at gone ends is =
+    let place : at ≡ NoneLeft split = subst (λ (z : Fault). EndsAt z at) is ends in
+    let went : Went true (Opening 0 list, a) (NoneLeft split, d) = subst (λ (q : Place). Went true (Opening 0 list, a) (q, d)) place gone in
     (went-plays backup list a (NoneLeft split, d) set new went refl refl, start_doomed true backup list split a d start went)
-
-pub no-split : (split : ℕ) {P : Type 0} → fault.NoMemory ≡ fault.SpentAt split → P
-no-split split e = cc
 
 -- all of a list whose turns went well
 pub all-well : {M : Type 0} (failed : M → Bool) (fits : M → List ℕ → Type 0) (board : List ℕ) (ms : List M) → AreWell failed fits board ms → All (λ m. failed m ≡ false) ms

@@ -1,12 +1,15 @@
 -- A run whose actors were driven to its end, before its spill folders are looked at.
-use Rattle.std.specs.Prelude.{◌≡◌, ℕ, ◌<◌, ◌==◌, ◌&&◌, nat_lt, Bool, IsTrue, if◌then◌else◌, List, length, slice_index, Some}
+use Rattle.std.specs.Prelude.{◌≡◌, ℕ, ◌≤◌, ◌<◌, ◌==◌, ◌&&◌, nat_lt, Bool, IsTrue, if◌then◌else◌, List, [], ◌++◌, length, map, slice_index, Some}
 use Rattle.std.specs.List.{slice_get}
 use Rattle.hop_event.specs.declared.event.Event.{Event}
 use Rattle.hop_event.specs.Agreement.{history_at}
 use Rattle.hop_event.specs.Failing.{IsDoomed, tries}
 use Rattle.hop_event.specs.Legal.{Rules}
 use Rattle.hop_laws.specs.Blocking.{blocking_texts}
+use Rattle.hop_ending.specs.Cuts.{put_of, writings_of}
 use Rattle.hop_machine.specs.actors.MapperTurns.{Mapper}
+use Rattle.hop_machine.specs.actors.ReducerTurns.{Writing}
+use Rattle.hop_machine.specs.home.ReducerHome.{cuts_of}
 use Rattle.hop_machine.specs.play.Play.{Machine, NoneLeft, Over}
 use Rattle.hop_machine.specs.step.Pushing.{AllOfWorker, kept_end}
 use Rattle.hop_machine.specs.run.AllHome.{mapper_of}
@@ -52,9 +55,11 @@ pub record Drove (g : Given) (tells : Bool) (mappers : List Mapper) (t : Traced)
   pub blocking : IsTrue tells → texts ≡ blocking_texts g.job g.records g.settings.reducers
 
 -- A run in which the last attempt of this split was spent: it is one of the run's, the script has a line for each attempt of it that may be
--- begun, and the play of the turn list ends so.
-pub record IsSpent (g : Given) (split : ℕ) : Type 0 where
+-- begun, and the play of the turn list ends so. What the writer put of each reducer, and then what is still in its cut lane, are the cuts of its history.
+pub record IsSpent (g : Given) (split : ℕ) (writings : List Writing) : Type 0 where
   pub end : Machine
   pub play : PlaysTo g (NoneLeft split) end
   pub is_split : split < length (rules_given g).lens
   pub doomed : IsDoomed g.script g.settings.attempts split
+  pub put : (p : ℕ) → p < g.settings.reducers → writings_of p writings ++ map (put_of p) (end.shared.cuts p) ≡ map (put_of p) (cuts_of (setup_given g) (end.shared.histories p).events)
+  pub others : (p : ℕ) → g.settings.reducers ≤ p → writings_of p writings ≡ []

@@ -43,13 +43,13 @@ WorkerFaults w a b (fault.SpentAt split) = SameCounts a b
 WorkerFaults w a b fault.FolderFailed = SameCounts a b
 WorkerFaults w a b fault.NoMemory = SameCounts a b
 
--- The worker that a fault names is one of so many. A run without marks puts nothing in the job folder.
+-- The worker that a fault names is one of so many.
 abbrev pub NamesWorker : ℕ → Fault → Type 0
 NamesWorker workers (fault.SpillFailed worker) = worker < workers
 NamesWorker workers (fault.SpillDamaged worker at kept found) = worker < workers
 NamesWorker workers (fault.SpillCollides worker at place) = worker < workers
 NamesWorker workers (fault.SpentAt split) = Unit {0}
-NamesWorker workers fault.FolderFailed = ⊥
+NamesWorker workers fault.FolderFailed = Unit {0}
 NamesWorker workers fault.NoMemory = Unit {0}
 
 -- in each folder only files of spills were put

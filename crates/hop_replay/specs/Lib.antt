@@ -2,3 +2,4 @@ pub mod Driven
 pub mod Folders
 pub mod Given
 pub mod Replayed
+pub mod Snapshots

@@ -11,15 +11,16 @@ ghost use Rattle.hop_machine.specs.home.Said.{history_of};
 ghost use Rattle.hop_machine.specs.play.Play.{Opening, Place, Went};
 ghost use Rattle.hop_machine.specs.play.FirstState.{IsNew};
 ghost use Rattle.hop_machine.specs.run.AllHome.{IsStart, Opens, RanToItsEnd};
-ghost use Rattle.hop_actors.specs.declared.fault.Fault.TheVariants as fault;
 ghost use Rattle.hop_settle.specs.Begun.{AreCounted};
 ghost use Rattle.hop_settle.specs.Crews.{AreWell, IsSized, TurnsBelow, actors_of, world_of};
 ghost use Rattle.hop_settle.specs.Lacking.{HasReducers};
 ghost use Rattle.hop_settle.specs.Playing.{AreMergers, EndsAt, numbers, orders_of};
 ghost use Rattle.hop_settle.specs.Stops.{CrewStops};
 ghost use Rattle.hop_finish.specs.Left.{EachWon, IsFree};
-ghost use Rattle.hop_replay.specs.Driven.{Drove, IsSpent};
+ghost use Rattle.hop_replay.specs.Driven.{Drove};
+ghost use Rattle.hop_replay.specs.Snapshots.{Wrote, WroteUntil};
 
+use crate::writing_laws::writers_write_cuts;
 use hop_actors::{Actor, Fault, SnapshotWriter, Store, Taker};
 use hop_base::{Lens, NoMemory, RunName, Texts};
 use hop_event::History;
@@ -127,8 +128,8 @@ fn run_end<N: RunName, E: Reach<N>, M: Store<N, E>, J: Job>(
 /// Actors as they are made take the turns of the turn list and are settled, over exact ends, and what the run left is read off them. No mapper begins
 /// backups.
 ///
-/// At Ok the run came to its end, and it is the play of the turn list. `SpentAt` comes only where that play ends so, and the script then has a line for
-/// each attempt of that split. No count of a folder's faults rises but the one that the fault tells of. At Ok, and also after a fault, in the spill folder
+/// At Ok the run came to its end, and it is the play of the turn list. The writer then put the cuts of each history, and else only of marks that were reached.
+/// `SpentAt` comes only where that play ends so, and the script then has a line for each attempt of that split. No count of a folder's faults rises but the one that the fault tells of. At Ok, and also after a fault, in the spill folder
 /// of each worker only files of spills were put.
 pub fn run_to_end<
     N: RunName,
@@ -164,7 +165,8 @@ pub fn run_to_end<
     requires fits { W.fits writer.old (E.deeds reach.old).ends.board }
     requires sized { IsSized (E.deeds reach.old).setup }
     ensures drove { IfOk result (λ end. Drove (record { job = N.job; records = N.records; script = N.script; settings = N.settings; turns = turns.now }) N.tells (map M.mapper mappers.new.items) (record { begun = end.begun.items; histories = map (λ h. h.events) end.histories.items }) end.texts) }
-    ensures spent { IfErr result (λ f. (split : ℕ) → f ≡ fault.SpentAt split → IsSpent (record { job = N.job; records = N.records; script = N.script; settings = N.settings; turns = turns.now }) split) }
+    ensures wrote { IfOk result (λ end. Wrote (record { job = N.job; records = N.records; script = N.script; settings = N.settings; turns = turns.now }) (record { begun = end.begun.items; histories = map (λ h. h.events) end.histories.items }) (W.writer writer.new).writings) }
+    ensures until { IfErr result (λ f. WroteUntil (record { job = N.job; records = N.records; script = N.script; settings = N.settings; turns = turns.now }) f (W.writer writer.new).writings) }
     ensures count { length mappers.new.items ≡ length mappers.old.items }
     ensures numbers { OnOk result ((w : ℕ) (m : M) → slice_get mappers.new.items w ≡ Some m → (M.mapper m).number ≡ w) }
     ensures well { OnOk result ((w : ℕ) (m : M) → slice_get mappers.new.items w ≡ Some m → M.failed m ≡ false) }
@@ -174,6 +176,7 @@ pub fn run_to_end<
     ensures put { OnOk result (W.counts writer.new ≡ W.counts writer.old) }
     ensures cause { IfErr result (CrewStops (map M.counts mappers.old.items) (map M.counts mappers.new.items) (W.counts writer.old) (W.counts writer.new)) }
 {
+    writers_write_cuts();
     let splits = lens.as_slice().len() as u32;
     let partitions = reducers.len() as u8;
     match drive(mappers, reducers, mergers, writer, reach, turns) {

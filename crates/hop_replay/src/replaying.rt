@@ -1,6 +1,5 @@
 //! A run on one thread, from what it is given to what it leaves.
-ghost use Rattle.std.specs.Prelude.{false, ◌≡◌, ◌≤◌, ℕ, [], length, map, All, IfOk, IfErr, OnOk, vec_capacity};
-ghost use Rattle.hop_actors.specs.declared.fault.Fault.TheVariants as fault;
+ghost use Rattle.std.specs.Prelude.{false, ◌≡◌, ◌≤◌, ℕ, length, map, All, IfOk, IfErr, OnOk, vec_capacity};
 ghost use Rattle.hop_base.specs.Run.{delay_of};
 ghost use Rattle.hop_inner.specs.Setups.{setup_of};
 ghost use Rattle.hop_machine.specs.play.FirstState.{new_actors};
@@ -8,16 +7,16 @@ ghost use Rattle.hop_mapper.specs.Mappers.{mapper_of};
 ghost use Rattle.hop_mapper.specs.Sound.{IsOfRun};
 ghost use Rattle.hop_script.specs.TurnLines.{IsTurn};
 ghost use Rattle.hop_settle.specs.Playing.{numbers};
-ghost use Rattle.hop_settle.specs.Stops.{StoresStop};
+ghost use Rattle.hop_settle.specs.Stops.{CrewStops};
 ghost use Rattle.hop_start.specs.Given.{AreOfRun, AreSpillFolders};
 ghost use Rattle.hop_start.specs.Made.{folder_of, AreFresh};
-ghost use Rattle.hop_replay.specs.Driven.{Drove, IsSpent};
+ghost use Rattle.hop_replay.specs.Driven.{Drove};
 ghost use Rattle.hop_replay.specs.Folders.{counts_seen, AreSpilledBy, HaveOnlySpills, NoneFailed, OnlySpillsPut, Stopped};
 ghost use Rattle.hop_replay.specs.Replayed.{Ran};
+ghost use Rattle.hop_replay.specs.Snapshots.{Snapped, SnappedUntil};
 
-use crate::driving::RunEnd;
 use crate::folder_laws::counts_tell_of_folders;
-use crate::unmarked::run_unmarked;
+use crate::snapping::{Replayed, run_with_snapshots};
 use hop_actors::Fault;
 use hop_base::{Lens, RunName, Settings};
 use hop_board::PlainSeat;
@@ -30,48 +29,57 @@ use hop_start::{folders_back, lens_of_book, new_mappers, new_world};
 use std::alloc::Global;
 
 // The mappers of a run take their turns in a world of one thread.
-fn run_over<'a, N: RunName, V: Folder + Drop, J: Job, G: Gate>(
+fn run_over<'a, N: RunName, F: Folder, V: Folder + Drop, J: Job, G: Gate>(
     alloc: Global,
     job: &J,
     lens: &Lens,
     script: &Script,
     settings: &Settings,
     turns: &Turns,
+    gate: &G,
+    folder: F,
     mappers: &mut Vec<Mapper<'a, N, V, J, G, PlainSeat>>,
-) -> Result<RunEnd, Fault>
+) -> Replayed<F>
     requires given { AreOfRun N.job N.records N.script N.settings lens.now script.now settings.now }
     requires job { J.meaning job.now ≡ N.job }
     requires turns { All (IsTurn (numbers N.settings.workers N.settings.reducers 0)) turns.now }
-    requires unmarked { N.settings.marks ≡ [] }
     requires alone { N.settings.backup ≡ false }
     requires delays { (w : ℕ) → delay_of N.script w ≤ 10000 }
     requires mappers { map (mapper_of N.records N.script N.settings) mappers.old.items ≡ (new_actors (setup_of N.records N.script N.settings) N.settings.backup).mappers }
     requires fresh { AreFresh N.job N.records N.settings N.tells mappers.old.items }
     requires only { HaveOnlySpills N.spills V.seen mappers.old.items }
-    ensures drove { IfOk result (λ end. Drove (record { job = N.job; records = N.records; script = N.script; settings = N.settings; turns = turns.now }) N.tells (map (mapper_of N.records N.script N.settings) mappers.new.items) (record { begun = end.begun.items; histories = map (λ h. h.events) end.histories.items }) end.texts) }
-    ensures spent { IfErr result (λ f. (split : ℕ) → f ≡ fault.SpentAt split → IsSpent (record { job = N.job; records = N.records; script = N.script; settings = N.settings; turns = turns.now }) split) }
+    requires folder { N.folder ≡ (F.seen folder).held }
+    ensures drove { IfOk result.end (λ end. Drove (record { job = N.job; records = N.records; script = N.script; settings = N.settings; turns = turns.now }) N.tells (map (mapper_of N.records N.script N.settings) mappers.new.items) (record { begun = end.begun.items; histories = map (λ h. h.events) end.histories.items }) end.texts) }
+    ensures snapped { IfOk result.end (λ end. Snapped (record { job = N.job; records = N.records; script = N.script; settings = N.settings; turns = turns.now }) N.tells (record { begun = end.begun.items; histories = map (λ h. h.events) end.histories.items }) (F.seen folder) (F.seen result.folder)) }
+    ensures until { IfErr result.end (λ f. SnappedUntil (record { job = N.job; records = N.records; script = N.script; settings = N.settings; turns = turns.now }) N.tells f (F.seen folder) (F.seen result.folder)) }
     ensures count { length mappers.new.items ≡ length mappers.old.items }
-    ensures spilled { OnOk result (AreSpilledBy N.job N.records N.settings N.spills V.seen mappers.new.items) }
+    ensures spilled { OnOk result.end (AreSpilledBy N.job N.records N.settings N.spills V.seen mappers.new.items) }
     ensures only { HaveOnlySpills N.spills V.seen mappers.new.items }
-    ensures counts { OnOk result (map counts_seen (map V.seen (map folder_of mappers.new.items)) ≡ map counts_seen (map V.seen (map folder_of mappers.old.items))) }
-    ensures cause { IfErr result (StoresStop (map counts_seen (map V.seen (map folder_of mappers.old.items))) (map counts_seen (map V.seen (map folder_of mappers.new.items)))) }
+    ensures counts { OnOk result.end (map counts_seen (map V.seen (map folder_of mappers.new.items)) ≡ map counts_seen (map V.seen (map folder_of mappers.old.items))) }
+    ensures cause { IfErr result.end (CrewStops (map counts_seen (map V.seen (map folder_of mappers.old.items))) (map counts_seen (map V.seen (map folder_of mappers.new.items))) (counts_seen (F.seen folder)) (counts_seen (F.seen result.folder))) }
 {
     let Ok(mut world) = new_world::<N>(alloc, lens, script, settings) else {
-        return Err(Fault::NoMemory);
+        return Replayed {
+            end: Err(Fault::NoMemory),
+            folder,
+        };
     };
-    run_unmarked(alloc, job, lens, settings, turns, mappers, &mut world)
+    run_with_snapshots(
+        alloc, job, lens, settings, turns, gate, folder, mappers, &mut world,
+    )
 }
 
 /// The run of a job over the records of a book, on one thread: workers and reducers take the turns of the turn list, as the script says they fail,
-/// wait and restart, and then the run is settled. `folders` are the spill folders of the workers, in order, and they are the same ones afterwards. It has
-/// no marks, and so no snapshots, and no backups.
+/// wait and restart, and then the run is settled. `folders` are the spill folders of the workers, in order, and they are the same ones afterwards.
+/// `folder` is the job folder, in which a writer puts the snapshots, and it is handed back at every answer. There are no backups.
 ///
 /// At Ok the run is the play of its turn list, its histories are finished and agree, each spill folder holds what it held and exactly the spills
-/// of its worker's attempts, and where all of them tell, the texts are those of the blocking job. `SpentAt` comes only where the play ends
-/// so. Nothing but spills was put in any spill folder, whatever is answered. No count of a folder's faults rises but the one that the fault tells of.
+/// of its worker's attempts, the job folder what it held and the snapshots of the cuts of the histories, and where all spill folders tell, the texts are those
+/// of the blocking job. `SpentAt` comes only where the play ends so. After a fault the job folder holds the snapshots of cuts of marks that were reached.
+/// Nothing but spills was put in any spill folder, whatever is answered. No count of a folder's faults rises but the one that the fault tells of.
 ///
 /// The idea is the pipelined run of T. Condie and others, "MapReduce Online", NSDI 2010.
-pub fn replay<N: RunName, V: Folder + Drop, J: Job, G: Gate>(
+pub fn replay<N: RunName, F: Folder, V: Folder + Drop, J: Job, G: Gate>(
     alloc: Global,
     job: &J,
     book: &Book,
@@ -79,32 +87,50 @@ pub fn replay<N: RunName, V: Folder + Drop, J: Job, G: Gate>(
     settings: &Settings,
     turns: &Turns,
     gate: &G,
+    folder: F,
     folders: &mut Vec<V>,
-) -> Result<RunEnd, Fault>
+) -> Replayed<F>
     requires given { IsOfRun N.job N.records N.script N.settings (J.meaning job.now) book.now script.now settings.now }
     requires turns { All (IsTurn (numbers N.settings.workers N.settings.reducers 0)) turns.now }
-    requires unmarked { N.settings.marks ≡ [] }
     requires alone { N.settings.backup ≡ false }
     requires delays { (w : ℕ) → delay_of N.script w ≤ 10000 }
+    requires folder { N.folder ≡ (F.seen folder).held }
     requires folders { AreSpillFolders N.tells N.spills N.settings.workers V.seen folders.old.items }
-    ensures ran { IfOk result (λ end. Ran (record { job = N.job; records = N.records; script = N.script; settings = N.settings; turns = turns.now }) N.tells (record { before = map V.seen folders.old.items; after = map V.seen folders.new.items }) (record { begun = end.begun.items; histories = map (λ h. h.events) end.histories.items }) end.texts) }
-    ensures spent { IfErr result (λ f. (split : ℕ) → f ≡ fault.SpentAt split → IsSpent (record { job = N.job; records = N.records; script = N.script; settings = N.settings; turns = turns.now }) split) }
+    ensures ran { IfOk result.end (λ end. Ran (record { job = N.job; records = N.records; script = N.script; settings = N.settings; turns = turns.now }) N.tells (record { before = map V.seen folders.old.items; after = map V.seen folders.new.items }) (record { begun = end.begun.items; histories = map (λ h. h.events) end.histories.items }) end.texts) }
+    ensures snapped { IfOk result.end (λ end. Snapped (record { job = N.job; records = N.records; script = N.script; settings = N.settings; turns = turns.now }) N.tells (record { begun = end.begun.items; histories = map (λ h. h.events) end.histories.items }) (F.seen folder) (F.seen result.folder)) }
+    ensures until { IfErr result.end (λ f. SnappedUntil (record { job = N.job; records = N.records; script = N.script; settings = N.settings; turns = turns.now }) N.tells f (F.seen folder) (F.seen result.folder)) }
     ensures count { length folders.new.items ≡ length folders.old.items }
     ensures only { OnlySpillsPut (record { before = map V.seen folders.old.items; after = map V.seen folders.new.items }) }
-    ensures none { OnOk result (NoneFailed (record { before = map V.seen folders.old.items; after = map V.seen folders.new.items })) }
-    ensures stopped { IfErr result (Stopped N.settings.workers (record { before = map V.seen folders.old.items; after = map V.seen folders.new.items })) }
+    ensures none { OnOk result.end (NoneFailed (record { before = map V.seen folders.old.items; after = map V.seen folders.new.items })) }
+    ensures stopped { IfErr result.end (Stopped N.settings.workers (record { before = map V.seen folders.old.items; after = map V.seen folders.new.items })) }
     ensures room { vec_capacity folders.old ≤ vec_capacity folders.new }
 {
     counts_tell_of_folders();
     let Ok(lens) = lens_of_book(alloc, book) else {
-        return Err(Fault::NoMemory);
+        return Replayed {
+            end: Err(Fault::NoMemory),
+            folder,
+        };
     };
     let Ok(mut mappers) = new_mappers::<N, V, J, G>(
         alloc, folders, book, job, script, gate, settings,
     ) else {
-        return Err(Fault::NoMemory);
+        return Replayed {
+            end: Err(Fault::NoMemory),
+            folder,
+        };
     };
-    let end = run_over(alloc, job, &lens, script, settings, turns, &mut mappers);
+    let replayed = run_over(
+        alloc,
+        job,
+        &lens,
+        script,
+        settings,
+        turns,
+        gate,
+        folder,
+        &mut mappers,
+    );
     folders_back(mappers, folders);
-    end
+    replayed
 }

@@ -9,6 +9,7 @@ use Rattle.hop_machine.specs.play.Play.{World, Opening, Over}
 use Rattle.hop_machine.specs.run.AllHome.{RanToItsEnd}
 use Rattle.hop_machine.proofs.run.Starting.{start_at_home}
 use Rattle.hop_machine.proofs.run.WholeRun.{ends_settled, run_went}
+use Rattle.hop_actors.specs.declared.fault.Fault.TheVariants as fault
 use Rattle.hop_ending.proofs.Numbers.{start_numbers}
 use Rattle.hop_settle.specs.Crews.{actors_of, world_of}
 use Rattle.hop_settle.specs.Playing.{orders_of}
@@ -16,9 +17,9 @@ use Rattle.hop_settle.proofs.BegunLaws.{counted-begun}
 use Rattle.hop_settle.proofs.Lists.{map-at}
 use Rattle.hop_replay.specs.Given.{Given}
 use Rattle.hop_replay.proofs.ByPlace.{only-by-place}
-use Rattle.hop_replay.proofs.Drove.{DroveIn, drove-in, drove-so, spent-in}
+use Rattle.hop_replay.proofs.Drove.{DroveIn, drove-in, drove-so}
 use Rattle.hop_replay.proofs.GoingOn.{Ended}
-use Rattle.hop_replay.proofs.Stopping.{none-taken, spent-so}
+use Rattle.hop_replay.proofs.Stopping.{none-taken}
 use Rattle.hop_replay.proofs.Whole.{free-then, all-won, are-histories, all-alone}
 use Rattle.hop_replay.proofs.driving.run_to_end.Goals as goal
 
@@ -32,15 +33,15 @@ drive-requires-clause-turns g c =
     let E = g.E.Reach in
     none-taken g.N.RunName.settings.backup (actors_of (map g.M.Store.mapper c.args.mappers.now.items) (map g.D.Taker.reducer c.args.reducers.now.items) (g.W.SnapshotWriter.writer c.args.writer.now)) (E.deeds c.args.reach.now) c.requires.start
 
-pub returns-in-Err-clause-spent : goal.returns-in-Err-clause-spent
-returns-in-Err-clause-spent g c = λ split e.
+pub returns-in-Err-clause-until : goal.returns-in-Err-clause-until
+returns-in-Err-clause-until g c =
     let E = g.E.Reach in let N = g.N.RunName in let k = g.M.Store.mapper in let f = g.D.Taker.reducer in let z = g.W.SnapshotWriter.writer in let n = c.drive in
     let A : World = world_of (map k c.args.mappers.now.items) (map f c.args.reducers.now.items) (z c.args.writer.now) (E.deeds c.args.reach.now) in
     let D : World = world_of (map k n.new.mappers.items) (map f n.new.reducers.items) (z n.new.writer) (E.deeds n.new.reach) in
     let G : Given = record { job = N.job; records = N.records; script = N.script; settings = N.settings; turns = c.args.turns.now } in
     let list = orders_of c.args.turns.now in
     let ended : Ended true (Opening 0 list, A) D c.in-Err.fault = subst (λ (b : Bool). Ended b (Opening 0 list, A) D c.in-Err.fault) c.requires.exact c.in-Err.ensures.stopped in
-    spent-in G A.deeds.setup (g.met.E.Reach.of_run c.args.reach.now) D split (spent-so N.settings.backup list A D c.in-Err.fault split c.requires.start.set c.requires.new c.requires.start ended e)
+    c.writers_write_cuts.ensures.until G A D (g.met.E.Reach.of_run c.args.reach.now) (g.met.E.Reach.of_run n.new.reach) c.requires.new c.requires.start c.in-Err.fault ended.0 ended.1 ended.2
 
 pub returns-in-Err-clause-only : goal.returns-in-Err-clause-only
 returns-in-Err-clause-only g c =
@@ -94,6 +95,31 @@ returns-in-Ok-run_end-clause-drove g c =
     let drove = drove-in N.settings.backup list A D c.requires.start.set c.requires.new (od ∙ sym oa) ran (all-alone k n.new.mappers.items c.requires.alone) begun counted hs (are-histories D.deeds c.len-partitions.result hs here c.in-Ok-run_end.ensures.histories) in
     drove-so G N.tells D begun hs c.in-Ok-run_end.end.texts (subst (λ (s : Setup). DroveIn s N.settings.backup list D begun hs) od drove)
     (c.in-Ok-run_end.ensures.parts ∙ all) (λ t. c.in-Ok-run_end.ensures.texts t ∙ ap (blocking_texts N.job N.records) all)
+
+pub returns-in-Ok-run_end-clause-wrote : goal.returns-in-Ok-run_end-clause-wrote
+returns-in-Ok-run_end-clause-wrote g c =
+    let E = g.E.Reach in let N = g.N.RunName in let k = g.M.Store.mapper in let f = g.D.Taker.reducer in let z = g.W.SnapshotWriter.writer in let n = c.drive in
+    let A : World = world_of (map k c.args.mappers.now.items) (map f c.args.reducers.now.items) (z c.args.writer.now) (E.deeds c.args.reach.now) in
+    let D : World = world_of (map k n.new.mappers.items) (map f n.new.reducers.items) (z n.new.writer) (E.deeds n.new.reach) in
+    let G : Given = record { job = N.job; records = N.records; script = N.script; settings = N.settings; turns = c.args.turns.now } in
+    let list = orders_of c.args.turns.now in
+    let ran : RanToItsEnd true (Opening 0 list) A D = subst (λ (b : Bool). RanToItsEnd b (Opening 0 list) A D) c.requires.exact c.in-Ok.ensures.ran in
+    let many = c.len-partitions.ensures in let before = c.requires.start.reducers in let mapped = length-map c.args.reducers.now.items f in
+    let oa = g.met.E.Reach.of_run c.args.reach.now in let od = g.met.E.Reach.of_run n.new.reach in
+    let sa = ap (λ (s : Setup). s.reducers) oa in let sd = ap (λ (s : Setup). s.reducers) od in
+    let here : c.len-partitions.result ≡ D.deeds.setup.reducers = omega (arith, many, before, mapped, sa, sd) in
+    let hs : List (List Event) = map (λ (h : _). h.events) c.in-Ok-run_end.end.histories.items in
+    c.writers_write_cuts.ensures.wrote G A D od c.requires.start ran c.in-Ok-run_end.end.begun.items hs (are-histories D.deeds c.len-partitions.result hs here c.in-Ok-run_end.ensures.histories)
+
+pub returns-in-Err-run_end-clause-until : goal.returns-in-Err-run_end-clause-until
+returns-in-Err-run_end-clause-until g c =
+    let E = g.E.Reach in let N = g.N.RunName in let k = g.M.Store.mapper in let f = g.D.Taker.reducer in let z = g.W.SnapshotWriter.writer in let n = c.drive in
+    let A : World = world_of (map k c.args.mappers.now.items) (map f c.args.reducers.now.items) (z c.args.writer.now) (E.deeds c.args.reach.now) in
+    let D : World = world_of (map k n.new.mappers.items) (map f n.new.reducers.items) (z n.new.writer) (E.deeds n.new.reach) in
+    let G : Given = record { job = N.job; records = N.records; script = N.script; settings = N.settings; turns = c.args.turns.now } in
+    let list = orders_of c.args.turns.now in
+    let ran : RanToItsEnd true (Opening 0 list) A D = subst (λ (b : Bool). RanToItsEnd b (Opening 0 list) A D) c.requires.exact c.in-Ok.ensures.ran in
+    c.writers_write_cuts.ensures.until G A D (g.met.E.Reach.of_run c.args.reach.now) (g.met.E.Reach.of_run n.new.reach) c.requires.new c.requires.start fault.NoMemory Over (run_went true (Opening 0 list) A D ran) tt
 
 pub returns-in-Ok-run_end-clause-numbers : goal.returns-in-Ok-run_end-clause-numbers
 returns-in-Ok-run_end-clause-numbers g c = λ w m e.

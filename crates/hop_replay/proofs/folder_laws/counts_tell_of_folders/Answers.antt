@@ -1,8 +1,8 @@
-use Rattle.hop_replay.proofs.Counted.{none-failed, stopped-then}
+use Rattle.hop_replay.proofs.Counted.{none-failed, crew-stopped}
 use Rattle.hop_replay.proofs.folder_laws.counts_tell_of_folders.Goals as goal
 
 pub returns-clause-none : goal.returns-clause-none
 returns-clause-none c = none-failed
 
 pub returns-clause-stopped : goal.returns-clause-stopped
-returns-clause-stopped c = stopped-then
+returns-clause-stopped c = λ workers before after count f x y h. crew-stopped workers before after count f x y h

@@ -1,5 +1,5 @@
 -- What the spill folders of a run hold at its end.
-use Rattle.std.proofs.Common.{◌≡◌, ℕ, zero, suc, ◌<◌, Bool, IsTrue, List, [], ◌∷◌, length, map, Some, None, Option, slice_index, is_some, refl, sym, ap, ◌∙◌, subst}
+use Rattle.std.proofs.Common.{◌≡◌, ℕ, zero, suc, Bool, List, [], ◌∷◌, map, Some, None, Option, is_some, refl, sym, ap, ◌∙◌, subst}
 use Rattle.std.specs.Prelude.{slice_index_or, IfSome}
 use Rattle.std.specs.List.{slice_get}
 use Rattle.std.proofs.lemmas.Option.{same_Some}
@@ -11,9 +11,9 @@ use Rattle.hop_actors.specs.Counting.{Counts}
 use Rattle.hop_actors.specs.Spilled.{IsKeptSpill, HoldsMade, IsSpilled}
 use Rattle.hop_machine.specs.actors.MapperTurns.{Mapper}
 use Rattle.hop_settle.proofs.Lists.{map-at}
-use Rattle.hop_start.specs.Given.{AreSpillFolders, IsSpillFolder}
+use Rattle.hop_start.specs.Given.{AreSpillFolders}
 use Rattle.hop_replay.specs.Driven.{Drove, Traced, kept_of}
-use Rattle.hop_replay.specs.Folders.{counts_seen, Spilling}
+use Rattle.hop_replay.specs.Folders.{counts_seen}
 use Rattle.hop_replay.specs.Given.{Given, rules_given}
 use Rattle.hop_replay.specs.Replayed.{Ran}
 
