@@ -12,14 +12,16 @@ use Rattle.hop_event.specs.Failing.{IsDoomed, tries}
 use Rattle.hop_ending.specs.Doomed.{IsDoomedSplit}
 use Rattle.hop_ports.specs.Views.{FolderView, SinkView, appended}
 use Rattle.hop_ports.specs.Causes.{IsLonger}
-use Rattle.hop_replay.specs.Driven.{IsSpent}
 use Rattle.hop_replay.specs.Folders.{Spilling}
-use Rattle.hop_replay.specs.Given.{Given, setup_given}
+use Rattle.hop_replay.specs.Given.{Given, PlaysTo, setup_given}
+use Rattle.hop_machine.specs.play.Play.{Machine, NoneLeft, Over, Place}
+use Rattle.hop_machine.proofs.play.Plays.{Plays-one}
 use Rattle.hop_words.specs.Options.{Asked, AskedOptions, block, run, replay}
-use Rattle.hop_top.specs.Complete.{SomeDoomed}
-use Rattle.hop_top.specs.Puts.{Work, with_files}
+use Rattle.hop_top.specs.Complete.{PlayIsSpent, SomeDoomed}
+use Rattle.hop_top.specs.Puts.{Puts, Work, with_files}
 use Rattle.hop_top.specs.Reading.{AreReadable, FirstUnread, IsAbsent, IsLong, IsReadable, Wanted, bytes_of, reads_of}
 use Rattle.hop_top.specs.Runs.{RunWorks}
+use Rattle.hop_top.specs.Snaps.{SpentWith}
 use Rattle.hop_top.specs.Spilling.{CommandLeaves, RunLeaves, SpillsLeft, all_tell}
 use Rattle.hop_top.specs.Work.{Accepted, CommandSpends, CommandWorks, IsRun, Spends, Works, refusal_of, run_given}
 use Rattle.hop_top.specs.Meets.{MeetsOptions, MeetsNothing}
@@ -77,16 +79,22 @@ nothing_asked old new out_old out_new s (outcome.SpillDamaged worker at kept fou
 nothing_asked old new out_old out_new s (outcome.SpillCollides worker at place) meets = absurd meets
 nothing_asked old new out_old out_new s outcome.SayFailed meets = absurd meets
 
--- what a run needs for its end beside what was read: no split is doomed, and no spill folder stops it
-pub record GoesThrough (options : AskedOptions) (files : Files) (answer : Outcome) : Type 0 where
-  pub unspent : (split : ℕ) → answer ≡ outcome.RetriesSpent split → IsRun options.command → Spends options files split → ⊥
+-- what a run needs for its end beside what was read: no spill folder stops it
+pub record GoesOn (options : AskedOptions) (answer : Outcome) : Type 0 where
   pub unfailed : (w : ℕ) → answer ≡ outcome.SpillFailed w → IsRun options.command → ⊥
   pub undamaged : (w : ℕ) (at : _) (kept found : _) → answer ≡ outcome.SpillDamaged w at kept found → IsRun options.command → ⊥
   pub uncollided : (w : ℕ) (at : _) (place : ℕ) → answer ≡ outcome.SpillCollides w at place → IsRun options.command → ⊥
 
-spends_at : (held : Option Files) (files : Files) (options : AskedOptions) (split : ℕ) → held ≡ Some files → IfSome held (λ fs. Accepted options fs × Spends options fs split) → Spends options files split
-spends_at None files options split e h = cc
-spends_at (Some fs) files options split e h = let same : fs ≡ files = cc in subst (λ f. Spends options f split) same h.1
+-- the answer of a run that goes on: it is done, a split is spent, or memory was wanting
+pub data EndsSo (options : AskedOptions) (s : Spilling) (files : Files) (answer : Outcome) : Type 0 where
+  done : answer ≡ outcome.Done → EndsSo options s files answer
+  spent : (split : ℕ) (early : Puts) → Spends options s files split early → answer ≡ outcome.RetriesSpent split → EndsSo options s files answer
+  wanting : answer ≡ outcome.NoMemory → EndsSo options s files answer
+
+spends_at : (held : Option Files) (files : Files) (options : AskedOptions) (s : Spilling) (split : ℕ) (P : Puts → Type 0) → held ≡ Some files
+    → IfSome held (λ fs. Accepted options fs × ((early : Puts) × Spends options s fs split early × P early)) → (early : Puts) × Spends options s files split early
+spends_at None files options s split P e h = cc
+spends_at (Some fs) files options s split P e h = let same : fs ≡ files = cc in (h.1.0, subst (λ f. Spends options s f split h.1.0) same h.1.1)
 
 module _ (old new : FolderView) (out_old out_new : SinkView) (s : Spilling) (options : AskedOptions) (files : Files) (held : old.held ≡ Some files) where
   -- an input that is there is read, where no get failed
@@ -96,11 +104,11 @@ module _ (old new : FolderView) (out_old out_new : SinkView) (s : Spilling) (opt
       let at = subst (MeetsOptions old new out_old out_new s options) e meets in
       none_unread _ (IsAbsent old new file) (IsReadable files) (reads_of options) read (λ w readable absent. absent_clash old.held files w (Rose old.gets new.gets) held readable quiet absent.1) at.0
 
-  -- what is accepted is done, where no count rose and memory is there
-  pub complete : (answer : Outcome) → MeetsOptions old new out_old out_new s options answer → Accepted options files → GoesThrough options files answer
-      → (Rose old.gets new.gets → ⊥) → (Rose old.puts new.puts → ⊥) → (Rose out_old.faults out_new.faults → ⊥) → (answer ≡ outcome.Done) ⊎ (answer ≡ outcome.NoMemory)
-  complete outcome.Done meets accepted goes gets puts faults = inl refl
-  complete outcome.NoMemory meets accepted goes gets puts faults = inr refl
+  -- what is accepted is done or spent, where no count rose and memory is there
+  pub complete : (answer : Outcome) → MeetsOptions old new out_old out_new s options answer → Accepted options files → GoesOn options answer
+      → (Rose old.gets new.gets → ⊥) → (Rose old.puts new.puts → ⊥) → (Rose out_old.faults out_new.faults → ⊥) → EndsSo options s files answer
+  complete outcome.Done meets accepted goes gets puts faults = done refl
+  complete outcome.NoMemory meets accepted goes gets puts faults = wanting refl
   complete outcome.Usage meets accepted goes gets puts faults = absurd meets
   complete (outcome.InputFailed file) meets accepted goes gets puts faults = absurd (no_input_fails (outcome.InputFailed file) meets accepted.read gets file refl)
   complete (outcome.InputRefused (refusal.TooLong file)) meets accepted goes gets puts faults =
@@ -109,7 +117,8 @@ module _ (old new : FolderView) (out_old out_new : SinkView) (s : Spilling) (opt
   complete (outcome.InputRefused (refusal.TooManySplits count)) meets accepted goes gets puts faults = absurd (refused_clash old.held files options _ held accepted meets.0)
   complete (outcome.InputRefused (refusal.TooManySpills count)) meets accepted goes gets puts faults = absurd (refused_clash old.held files options _ held accepted meets.0)
   complete (outcome.ScriptRefused file line) meets accepted goes gets puts faults = absurd (refused_clash old.held files options _ held accepted meets.0)
-  complete (outcome.RetriesSpent split) meets accepted goes gets puts faults = absurd (goes.unspent split refl meets.1.runs (spends_at old.held files options split held meets.0))
+  complete (outcome.RetriesSpent split) meets accepted goes gets puts faults =
+      let at = spends_at old.held files options s split (λ early. new.held ≡ with_files old.held early) held meets.0 in spent split at.0 at.1 refl
   complete outcome.FolderFailed meets accepted goes gets puts faults = absurd (puts meets.0)
   complete (outcome.SpillFailed worker) meets accepted goes gets puts faults = absurd (goes.unfailed worker refl meets.runs)
   complete (outcome.SpillDamaged worker at kept found) meets accepted goes gets puts faults = absurd (goes.undamaged worker at kept found refl meets.runs)
@@ -179,38 +188,66 @@ module _ (options : AskedOptions) (s : Spilling) (answer : Outcome) (left : RunL
       let left' = subst (RunLeaves options.settings.workers s) is left in let f = at w left'.named in
       silent f.0.held (tells-at options.settings.workers s.before w f.0 told left'.named f.2) ((left'.own w f.0 f.1 left'.named f.2 f.3).answers.1 refl)
 
--- a command whose spill folders tell goes through, where no split is doomed and no count rose
-pub goes : (options : AskedOptions) (files : Files) (s : Spilling) (answer : Outcome) → SpillsLeft (Some options) s answer → all_tell options.settings.workers s.before ≡ true
+-- a command whose spill folders tell goes on, where no count rose
+pub goes : (options : AskedOptions) (s : Spilling) (answer : Outcome) → SpillsLeft (Some options) s answer → all_tell options.settings.workers s.before ≡ true
     → ((w : ℕ) (a b : FolderView) → slice_get s.before w ≡ Some a → slice_get s.after w ≡ Some b → (Rose a.gets b.gets → ⊥) × (Rose a.puts b.puts → ⊥))
-    → (SomeDoomed options.command options files → ⊥) → GoesThrough options files answer
-goes options files s answer left told quiet undoomed = of options.command refl
+    → GoesOn options answer
+goes options s answer left told quiet = of options.command refl
   where
-    spent : (g : Given) (split : ℕ) → IsSpent g split → IsDoomedSplit (setup_given g) split
-    spent g split h = record { is_split = h.is_split; doomed = h.doomed }
-
-    run-so : RunLeaves options.settings.workers s answer → ((split : ℕ) → Spends options files split → SomeDoomed options.command options files) → GoesThrough options files answer
-    run-so leaves dooms = record {
-      unspent = λ split is runs spends. undoomed (dooms split spends);
+    run-so : RunLeaves options.settings.workers s answer → GoesOn options answer
+    run-so leaves = record {
       unfailed = λ w is runs. no-fail options s answer leaves told quiet w is;
       undamaged = λ w part was found is runs. no-damage options s answer leaves told quiet w part was found is;
       uncollided = λ w part place is runs. no-collision options s answer leaves told quiet w part place is;
     }
 
-    of : (c : Asked) → options.command ≡ c → GoesThrough options files answer
+    of : (c : Asked) → options.command ≡ c → GoesOn options answer
     of (block job input) is = let none : IsRun options.command → ⊥ = λ h. subst IsRun is h in
-        record { unspent = λ split e runs spends. none runs; unfailed = λ w e runs. none runs; undamaged = λ w part was found e runs. none runs; uncollided = λ w part place e runs. none runs }
+        record { unfailed = λ w e runs. none runs; undamaged = λ w part was found e runs. none runs; uncollided = λ w part place e runs. none runs }
     of (run job input) is = run-so (subst (λ (c : Asked). CommandLeaves c options.settings.workers s answer) is left)
-        (λ split h. subst (λ (c : Asked). SomeDoomed c options files) (sym is) (split, spent (run_given options job input files) split (subst (λ (c : Asked). CommandSpends c options files split) is h)))
     of (replay job input) is = run-so (subst (λ (c : Asked). CommandLeaves c options.settings.workers s answer) is left)
-        (λ split h. subst (λ (c : Asked). SomeDoomed c options files) (sym is) (split, spent (run_given options job input files) split (subst (λ (c : Asked). CommandSpends c options files split) is h)))
+
+-- a split that was spent is doomed, and the play ends so
+doomed-so : (g : Given) (tells : Bool) (split : ℕ) (early : Puts) → SpentWith g tells split early → IsDoomedSplit (setup_given g) split
+doomed-so g tells split early h = record { is_split = h.spent.is_split; doomed = h.spent.doomed }
+
+pub spends-doomed : (options : AskedOptions) (s : Spilling) (files : Files) (split : ℕ) (early : Puts) → Spends options s files split early → SomeDoomed options.command options files
+spends-doomed options s files split early spends = of options.command refl
+  where
+    of : (c : Asked) → options.command ≡ c → SomeDoomed options.command options files
+    of (block job input) is = absurd (subst (λ (c : Asked). CommandSpends c options s files split early) is spends)
+    of (run job input) is = subst (λ (c : Asked). SomeDoomed c options files) (sym is) (split, doomed-so (run_given options job input files) _ split early (subst (λ (c : Asked). CommandSpends c options s files split early) is spends))
+    of (replay job input) is = subst (λ (c : Asked). SomeDoomed c options files) (sym is) (split, doomed-so (run_given options job input files) _ split early (subst (λ (c : Asked). CommandSpends c options s files split early) is spends))
+
+-- # A play ends once
+
+same-split : (i j : ℕ) (y z : Machine) → ◌≡◌ {A = Place × Machine} (NoneLeft i, y) (NoneLeft j, z) → i ≡ j
+same-split i j y z e = let p : NoneLeft i ≡ NoneLeft j = ap (λ (r : Place × Machine). r.0) e in cc
+
+never-over : (i : ℕ) (y z : Machine) → ◌≡◌ {A = Place × Machine} (Over, y) (NoneLeft i, z) → ⊥
+never-over i y z e = let p : Over ≡ NoneLeft i = ap (λ (r : Place × Machine). r.0) e in cc
+
+play-one : (g : Given) (a b : Place × Machine) → PlaysTo g a.0 a.1 → PlaysTo g b.0 b.1 → a ≡ b
+play-one g a b p q = (Plays-one (setup_given g) g.settings.backup _ a b p q).1
+
+-- where the play of a command's turn list ends so, another split isn't spent, and no work is done
+pub spends-it : (options : AskedOptions) (s : Spilling) (files : Files) (split other : ℕ) (early : Puts) → PlayIsSpent options.command options files split → Spends options s files other early → other ≡ split
+spends-it options s files split other early plays spends = of options.command refl
+  where
+    at : (g : Given) → (end : Machine) × PlaysTo g (NoneLeft split) end → (tells : Bool) → SpentWith g tells other early → other ≡ split
+    at g p tells h = same-split other split h.spent.end p.0 (play-one g (NoneLeft other, h.spent.end) (NoneLeft split, p.0) h.spent.play p.1)
+
+    of : (c : Asked) → options.command ≡ c → other ≡ split
+    of (block job input) is = absurd (subst (λ (c : Asked). CommandSpends c options s files other early) is spends)
+    of (run job input) is = at (run_given options job input files) (subst (λ (c : Asked). PlayIsSpent c options files split) is plays) _ (subst (λ (c : Asked). CommandSpends c options s files other early) is spends)
+    of (replay job input) is = at (run_given options job input files) (subst (λ (c : Asked). PlayIsSpent c options files split) is plays) _ (subst (λ (c : Asked). CommandSpends c options s files other early) is spends)
 
 -- # What is never done
 
 -- a run with a doomed split has no work
 no-work : (g : Given) (s : Spilling) (work : Work) (split : ℕ) → IsDoomedSplit (setup_given g) split → RunWorks g s work → ⊥
 no-work g s work split doomed works =
-    let t = works.0 in
-    tried (tries g.script g.settings.attempts split) (slice_index t.begun split) (no-tries g.script g.settings.attempts split doomed.doomed) (works.2.ran.tries split doomed.is_split)
+    tried (tries g.script g.settings.attempts split) (slice_index works.t.begun split) (no-tries g.script g.settings.attempts split doomed.doomed) (works.reported.ran.tries split doomed.is_split)
 
 no-works : (options : AskedOptions) (s : Spilling) (files : Files) (work : Work) → SomeDoomed options.command options files → Works options s files work → ⊥
 no-works options s files work doomed works = of options.command refl
@@ -233,3 +270,35 @@ never-done old new out_old out_new s options files answer held meets doomed is =
     let finished = subst (MeetsOptions old new out_old out_new s options) is meets in
     let w = finished-at old.held files options s (λ work. (new.held ≡ with_files old.held (work.early ++ work.files)) × (out_new.taken ≡ appended out_old.taken work.summary)) held finished in
     no-works options s files w.0 doomed w.1
+
+-- a work has a play that came to its end
+no-spent-work : (g : Given) (s : Spilling) (work : Work) (split : ℕ) → (end : Machine) × PlaysTo g (NoneLeft split) end → RunWorks g s work → ⊥
+no-spent-work g s work split p works = never-over split works.reported.ran.end p.0 (play-one g (Over, works.reported.ran.end) (NoneLeft split, p.0) works.reported.ran.play.played p.1)
+
+no-spent-works : (options : AskedOptions) (s : Spilling) (files : Files) (work : Work) (split : ℕ) → PlayIsSpent options.command options files split → Works options s files work → ⊥
+no-spent-works options s files work split plays works = of options.command refl
+  where
+    of : (c : Asked) → options.command ≡ c → ⊥
+    of (block job input) is = subst (λ (c : Asked). PlayIsSpent c options files split) is plays
+    of (run job input) is = no-spent-work (run_given options job input files) s work split (subst (λ (c : Asked). PlayIsSpent c options files split) is plays) (subst (λ (c : Asked). CommandWorks c options s files work) is works)
+    of (replay job input) is = no-spent-work (run_given options job input files) s work split (subst (λ (c : Asked). PlayIsSpent c options files split) is plays) (subst (λ (c : Asked). CommandWorks c options s files work) is works)
+
+pub never-spent : (old new : FolderView) (out_old out_new : SinkView) (s : Spilling) (options : AskedOptions) (files : Files) (split : ℕ) (answer : Outcome) → old.held ≡ Some files
+    → MeetsOptions old new out_old out_new s options answer → PlayIsSpent options.command options files split → answer ≡ outcome.Done → ⊥
+never-spent old new out_old out_new s options files split answer held meets plays is =
+    let finished = subst (MeetsOptions old new out_old out_new s options) is meets in
+    let w = finished-at old.held files options s (λ work. (new.held ≡ with_files old.held (work.early ++ work.files)) × (out_new.taken ≡ appended out_old.taken work.summary)) held finished in
+    no-spent-works options s files w.0 split plays w.1
+
+-- # The two clauses
+
+pub done-so : (options : AskedOptions) (s : Spilling) (files : Files) (answer : Outcome) → (SomeDoomed options.command options files → ⊥) → EndsSo options s files answer → (answer ≡ outcome.Done) ⊎ (answer ≡ outcome.NoMemory)
+done-so options s files answer undoomed (done e) = inl e
+done-so options s files answer undoomed (spent split early spends e) = absurd (undoomed (spends-doomed options s files split early spends))
+done-so options s files answer undoomed (wanting e) = inr e
+
+pub spent-so : (options : AskedOptions) (s : Spilling) (files : Files) (split : ℕ) (answer : Outcome) → PlayIsSpent options.command options files split → (answer ≡ outcome.Done → ⊥) → EndsSo options s files answer
+    → (answer ≡ outcome.RetriesSpent split) ⊎ (answer ≡ outcome.NoMemory)
+spent-so options s files split answer plays never (done e) = absurd (never e)
+spent-so options s files split answer plays never (spent other early spends e) = inl (e ∙ ap outcome.RetriesSpent (spends-it options s files split other early plays spends))
+spent-so options s files split answer plays never (wanting e) = inr e

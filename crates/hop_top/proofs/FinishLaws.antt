@@ -1,14 +1,11 @@
 -- What a run that came to its end puts and prints, in the words of what it was given.
-use Rattle.std.proofs.Common.{◌≡◌, ℕ, ◌*◌, List, [], ◌∷◌, length, map, refl, sym, ap, ◌∙◌, arith}
-use Rattle.std.specs.Prelude.{reverse, sum}
+use Rattle.std.proofs.Common.{◌≡◌, List, [], ◌∷◌, length, map, refl, ap, ◌∙◌}
+use Rattle.std.specs.Prelude.{reverse}
 use Rattle.std.specs.List.{range_with_len}
 use Rattle.std.proofs.lemmas.List.{length-map}
 use Rattle.std.proofs.lemmas.List.FromFn.{length-range_with_len}
 use Rattle.hop_event.specs.declared.event.Event.{Event}
 use Rattle.hop_records.specs.Records.{BookValue, len_of, lens_of, splits_of}
-use Rattle.hop_replay.specs.Driven.{Traced}
-use Rattle.hop_replay.specs.Given.{Given, rules_given}
-use Rattle.hop_top.specs.Runs.{in_order}
 
 module _ {H : Type 0} (events : H → List Event) where
   -- the histories in their order, read off in one step or in two
@@ -19,7 +16,3 @@ module _ {H : Type 0} (events : H → List Event) where
 -- a book has as many record counts as splits
 pub lens-count : (book : BookValue) → length (lens_of book) ≡ splits_of book
 lens-count book = length-map (range_with_len 0 (splits_of book)) (len_of book) ∙ length-range_with_len 0 (splits_of book)
-
--- a run without marks has no snapshots
-pub no-snapshots : (reducers : ℕ) (marks : List ℕ) → marks ≡ [] → reducers * length marks ≡ 0
-no-snapshots reducers marks e = ap (λ (l : List ℕ). reducers * length l) e ∙ (let z : reducers * 0 ≡ 0 = omega arith in z)

@@ -6,4 +6,5 @@ pub mod PlainLaws
 pub mod PutsLemmas
 pub mod RefusalLaws
 pub mod RunLaws
+pub mod SnapLaws
 pub mod SpillLaws

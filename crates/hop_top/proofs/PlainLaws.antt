@@ -1,4 +1,4 @@
--- What words ask for has no marks and no backups, and its workers have folders.
+-- What words ask for has no backups, and its workers have folders.
 use Rattle.std.proofs.Common.{◌≡◌, ℕ, ◌≤◌, ◌&&◌, Bool, true, false, if◌then◌else◌, List, [], ◌∷◌, Option, None, Some, refl, sym, ap, subst, arith}
 use Rattle.std.specs.Prelude.{nat_le}
 use Rattle.std.specs.Str.Parse.{digits_value}
@@ -6,15 +6,15 @@ use Rattle.std.proofs.lemmas.Bool.{leb-true}
 use Rattle.std.specs.Option.{option_and_then}
 use Rattle.std.proofs.lemmas.Option.{same_Some}
 use Rattle.hop_base.specs.Run.{RunSettings}
+use Rattle.hop_words.specs.Marks.{marks_in, yes_or_no_in}
 use Rattle.hop_words.specs.Names.{name_in}
 use Rattle.hop_words.specs.Numbers.{is_number, number_in, within}
-use Rattle.hop_words.specs.Options.{Asked, AskedOptions, Given, asked, asked_by, asked_from, command_asked, has_all, options_asked, options_with, settings_asked, takes_all, with_number}
-use Rattle.hop_words.specs.Scan.{Scanned, scan, values_given}
-use Rattle.hop_words.specs.Table.{NumberOption, attempts_option, lane_option, number_in_row, option_names, reducers_option, script_option, spill_option, split_option, turns_option, workers_option}
+use Rattle.hop_words.specs.Options.{Asked, AskedOptions, Given, asked, asked_by, command_asked, has_all, numbers_asked, options_asked, options_with, settings_asked, takes_all, with_number}
+use Rattle.hop_words.specs.Scan.{scan, values_given}
+use Rattle.hop_words.specs.Table.{NumberOption, attempts_option, lane_option, marks_option, number_in_row, option_names, reducers_option, script_option, spill_option, split_option, tentative_option, turns_option, workers_option}
 
--- no marks, no backups, and at most 8 workers
+-- no backups, and at most 8 workers
 pub record IsPlain (s : RunSettings) : Type 0 where
-  pub marks : s.marks ≡ []
   pub backup : s.backup ≡ false
   pub workers : s.workers ≤ 8
 
@@ -47,8 +47,8 @@ up-to least most default (value ∷ other ∷ values) n d e = cc
 with-number : (given : Given) (row : NumberOption) (next : ℕ → Option RunSettings) (s : RunSettings) → with_number given row next ≡ Some s → (n : ℕ) × (number_in_row row (given row.name) ≡ Some n) × (next n ≡ Some s)
 with-number given row next s e = and-then next (number_in_row row (given row.name)) s e
 
-settings-plain : (given : Given) (s : RunSettings) → settings_asked given ≡ Some s → IsPlain s
-settings-plain given s e =
+numbers-plain : (given : Given) (tentative : Bool) (marks : List ℕ) (s : RunSettings) → numbers_asked given tentative marks ≡ Some s → IsPlain s
+numbers-plain given tentative marks s e =
     let a = with-number given reducers_option _ s e in
     let b = with-number given split_option _ s a.2 in
     let c = with-number given spill_option _ s b.2 in
@@ -58,7 +58,13 @@ settings-plain given s e =
     let is = same_Some _ s g.2 in
     let few = up-to 1 8 2 (given workers_option.name) d.0 (omega arith) d.1 in
     let workers : d.0 ≡ s.workers = ap (λ (t : RunSettings). t.workers) is in
-    record { marks = sym (ap (λ (t : RunSettings). t.marks) is); backup = sym (ap (λ (t : RunSettings). t.backup) is); workers = omega (arith, few, workers) }
+    record { backup = sym (ap (λ (t : RunSettings). t.backup) is); workers = omega (arith, few, workers) }
+
+settings-plain : (given : Given) (s : RunSettings) → settings_asked given ≡ Some s → IsPlain s
+settings-plain given s e =
+    let a = and-then (λ tentative. option_and_then (λ marks. numbers_asked given tentative marks) (marks_in (given marks_option))) (yes_or_no_in true (given tentative_option)) s e in
+    let b = and-then (λ marks. numbers_asked given a.0 marks) (marks_in (given marks_option)) s a.2 in
+    numbers-plain given a.0 b.0 s b.2
 
 with-settings : (command : Asked) (s : RunSettings) (script turns : Option (Option (List ℕ))) (o : AskedOptions) → options_with command s script turns ≡ Some o → s ≡ o.settings
 with-settings command s (Some script) (Some turns) o e = ap (λ (k : AskedOptions). k.settings) (same_Some _ o (if-some (has_all command turns) _ o e))

@@ -1,12 +1,13 @@
 -- What a run's outcome says of the whole call.
-use Rattle.std.proofs.Common.{◌≡◌, ℕ, ◌≤◌, List, [], ◌∷◌, ◌++◌, inl, inr, Option, None, Some, take, refl, sym, ap, subst, ◌∙◌, arith}
+use Rattle.std.proofs.Common.{◌≡◌, ℕ, Bool, List, [], ◌∷◌, inl, inr, Option, None, Some, refl, sym, ap, subst, ◌∙◌, arith}
 use Rattle.std.specs.Option.{IfSome}
 use Rattle.std.specs.List.{AllByRecursion}
+use Rattle.hop_base.specs.Causes.{Rose}
 use Rattle.hop_base.specs.Files.{Files}
 use Rattle.hop_base.specs.Meaning.{Meaning}
 use Rattle.hop_ports.specs.Causes.{OnlyRead}
 use Rattle.hop_ports.specs.Views.{FolderView, SinkView}
-use Rattle.hop_replay.specs.Driven.{IsSpent, Traced}
+use Rattle.hop_replay.specs.Driven.{Traced}
 use Rattle.hop_replay.specs.Folders.{SameCounts, Spilling}
 use Rattle.hop_replay.specs.Given.{Given}
 use Rattle.hop_replay.specs.Replayed.{Ran}
@@ -14,14 +15,15 @@ use Rattle.hop_words.specs.Options.{Asked, AskedOptions, run, replay, command_of
 use Rattle.hop_words.specs.declared.options.Command.{Command}
 use Rattle.hop_words.specs.declared.options.Command.TheVariants.{Block, Run, Replay}
 use Rattle.hop_words.specs.declared.options.Options.{Options}
-use Rattle.hop_top.specs.Ends.{RunEnds, RunFails, EndsUnsaid, EndsHanded}
-use Rattle.hop_top.specs.Meets.{MeetsOptions, WhereAccepted, Untouched, Early, Broken}
+use Rattle.hop_top.specs.Ends.{JobAnswers, RunEnds, RunSnaps, RunStops}
+use Rattle.hop_top.specs.Meets.{MeetsOptions, WhereAccepted, Untouched, Early, Broken, Stopped}
 use Rattle.hop_top.specs.Plans.{IsRefusal, given_by, run_refusal}
-use Rattle.hop_top.specs.Puts.{HandsOut, Puts, Work}
+use Rattle.hop_top.specs.Puts.{HandsOut, Puts, Work, with_files}
+use Rattle.hop_top.specs.Snaps.{MaySnap, SpentWith}
 use Rattle.hop_top.specs.Reading.{AreReadable, ReadsFault, ReadsRun, RunTexts, Wanted, command_reads, reads_of, run_reads, texts_held}
-use Rattle.hop_top.specs.Runs.{Reported, RunWorks, in_order, run_files, run_summary}
+use Rattle.hop_top.specs.Runs.{RunWorks, run_files, run_summary}
 use Rattle.hop_top.specs.Spilling.{LeavesSpills, RunLeaves, WorkerAnswers, NamesWorker, all_tell}
-use Rattle.hop_top.specs.Work.{Accepted, AsksRun, CommandSpends, CommandWorks, IsRun, Spends, Works, command_refusal, refusal_of, run_given, run_texts}
+use Rattle.hop_top.specs.Work.{AsksRun, CommandSpends, CommandWorks, IsRun, MayPutEarly, Spends, Works, command_refusal, refusal_of, run_given, run_texts}
 use Rattle.hop_top.proofs.MeetsLemmas.{MayDo, meets_at_end}
 use Rattle.hop_top.specs.declared.outcome.Outcome.{Outcome}
 use Rattle.hop_top.specs.declared.outcome.Outcome.TheVariants as outcome
@@ -34,7 +36,8 @@ pub record RunsJob (options : AskedOptions) (job : Meaning) (input : List ℕ) :
   pub reads : reads_of options ≡ run_reads input options.script options.turns
   pub refuses : (files : Files) → refusal_of options files ≡ run_refusal options.settings (run_texts options input files)
   pub works : (s : Spilling) (files : Files) (work : Work) → RunWorks (run_given options job input files) s work → Works options s files work
-  pub spends : (files : Files) (split : ℕ) → IsSpent (run_given options job input files) split → Spends options files split
+  pub spends : (s : Spilling) (files : Files) (split : ℕ) (early : Puts) → SpentWith (run_given options job input files) (all_tell options.settings.workers s.before) split early → Spends options s files split early
+  pub snaps : (s : Spilling) (files : Files) (file : List ℕ × List ℕ) → MaySnap (run_given options job input files) (all_tell options.settings.workers s.before) file → MayPutEarly options.command options s files file
   pub runs : IsRun options.command
 
 runs-so : (options : AskedOptions) (job : Meaning) (input : List ℕ) → options.command ≡ run job input → RunsJob options job input
@@ -42,7 +45,8 @@ runs-so options job input is = record {
   reads = ap (λ (c : Asked). command_reads c options.script options.turns) is;
   refuses = λ files. ap (λ (c : Asked). command_refusal c options files) is;
   works = λ s files work h. subst (λ (c : Asked). CommandWorks c options s files work) (sym is) h;
-  spends = λ files split h. subst (λ (c : Asked). CommandSpends c options files split) (sym is) h;
+  spends = λ s files split early h. subst (λ (c : Asked). CommandSpends c options s files split early) (sym is) h;
+  snaps = λ s files file h. subst (λ (c : Asked). MayPutEarly c options s files file) (sym is) h;
   runs = subst IsRun (sym is) tt;
 }
 
@@ -51,7 +55,8 @@ replays-so options job input is = record {
   reads = ap (λ (c : Asked). command_reads c options.script options.turns) is;
   refuses = λ files. ap (λ (c : Asked). command_refusal c options files) is;
   works = λ s files work h. subst (λ (c : Asked). CommandWorks c options s files work) (sym is) h;
-  spends = λ files split h. subst (λ (c : Asked). CommandSpends c options files split) (sym is) h;
+  spends = λ s files split early h. subst (λ (c : Asked). CommandSpends c options s files split early) (sym is) h;
+  snaps = λ s files file h. subst (λ (c : Asked). MayPutEarly c options s files file) (sym is) h;
   runs = subst IsRun (sym is) tt;
 }
 
@@ -134,43 +139,61 @@ module _ (options : AskedOptions) (job : Meaning) (input : List ℕ) (asks : Run
       pub where-accepted : (P : Files → Type 0) → ((files : Files) → g ≡ run_given options job input files → P files) → WhereAccepted old options P
       where-accepted P holds = if-some old.held _ _ (λ files h. let k = held-texts files h in (record { read = k.0; unrefused = k.1 ∙ accepted }, holds files (is ∙ ap (given_by job options.settings) h.1))) read
 
-      early : new.held ≡ old.held → Early old new out_old out_new s options
-      early same = where-accepted (λ files. _) (λ files e. ([], tt, same))
+      abbrev told : Bool
+      told = all_tell options.settings.workers s.before
 
-      broken : NothingPut → Broken old new out_old out_new s options
-      broken none = record { runs = asks.runs; files = early none.held; taken = none.taken }
+      -- the snapshots that were put are some that may be put
+      may-put : (files : Files) (put : Puts) → g ≡ run_given options job input files → AllByRecursion (MaySnap g told) put → AllByRecursion (MayPutEarly options.command options s files) put
+      may-put files [] e may = tt
+      may-put files (file ∷ put) e may = (asks.snaps s files file (subst (λ (q : Given). MaySnap q told file) e may.0), may-put files put e may.1)
 
-      -- why it stopped
-      pub stopped-meets : (answer : Outcome) → RunFails g answer → NothingPut → Meets answer
-      stopped-meets (outcome.RetriesSpent split) f none = (where-accepted (λ files. Spends options files split) (λ files e. asks.spends files split (subst (λ (q : Given). IsSpent q split) e f)), broken none)
-      stopped-meets (outcome.SpillFailed worker) f none = broken none
-      stopped-meets (outcome.SpillDamaged worker at kept found) f none = broken none
-      stopped-meets (outcome.SpillCollides worker at place) f none = broken none
-      stopped-meets outcome.NoMemory f none = inl none
-      stopped-meets outcome.Done f none = absurd f
-      stopped-meets outcome.Usage f none = absurd f
-      stopped-meets (outcome.InputFailed file) f none = absurd f
-      stopped-meets (outcome.InputRefused why) f none = absurd f
-      stopped-meets (outcome.ScriptRefused file line) f none = absurd f
-      stopped-meets outcome.FolderFailed f none = absurd f
-      stopped-meets outcome.SayFailed f none = absurd f
+      early : (put : Puts) → AllByRecursion (MaySnap g told) put → new.held ≡ with_files old.held put → Early old new out_old out_new s options
+      early put may held = where-accepted (λ files. (early : Puts) × AllByRecursion (MayPutEarly options.command options s files) early × (new.held ≡ with_files old.held early)) (λ files e. (put, may-put files put e may, held))
+
+      -- why it stopped, and what was put before
+      module _ (middle : FolderView) (only : OnlyRead old middle) (quiet : out_new ≡ out_old) where
+        held-then : (put : Puts) → new.held ≡ with_files middle.held put → new.held ≡ with_files old.held put
+        held-then put h = h ∙ ap (λ (o : Option Files). with_files o put) only.held
+
+        broken : (put : Puts) → AllByRecursion (MaySnap g told) put → new.held ≡ with_files middle.held put → Broken old new out_old out_new s options
+        broken put may held = record { runs = asks.runs; files = early put may (held-then put held); taken = ap (λ (v : SinkView). v.taken) quiet }
+
+        halted : (put : Puts) → AllByRecursion (MaySnap g told) put → new.held ≡ with_files middle.held put → Stopped old new out_old out_new s options
+        halted put may held = record { files = inl (early put may (held-then put held)); taken = ap (λ (v : SinkView). v.taken) quiet }
+
+        pub stopped-meets : (answer : Outcome) (put : Puts) → AllByRecursion (MaySnap g told) put → new.held ≡ with_files middle.held put → JobAnswers middle new answer → RunStops g told put answer → Meets answer
+        stopped-meets (outcome.RetriesSpent split) put may held c f = (
+          where-accepted (λ files. (put : Puts) × Spends options s files split put × (new.held ≡ with_files old.held put))
+              (λ files e. (put, asks.spends s files split put (subst (λ (q : Given). SpentWith q told split put) e f), held-then put held)),
+          broken put may held,
+        )
+        stopped-meets (outcome.SpillFailed worker) put may held c f = broken put may held
+        stopped-meets (outcome.SpillDamaged worker at kept found) put may held c f = broken put may held
+        stopped-meets (outcome.SpillCollides worker at place) put may held c f = broken put may held
+        stopped-meets outcome.NoMemory put may held c f = inr (inl (halted put may held))
+        stopped-meets outcome.FolderFailed put may held c f = (subst (λ (n : ℕ). Rose n new.puts) only.puts c.1, halted put may held)
+        stopped-meets outcome.Done put may held c f = absurd f
+        stopped-meets outcome.Usage put may held c f = absurd f
+        stopped-meets (outcome.InputFailed file) put may held c f = absurd f
+        stopped-meets (outcome.InputRefused why) put may held c f = absurd f
+        stopped-meets (outcome.ScriptRefused file line) put may held c f = absurd f
+        stopped-meets outcome.SayFailed put may held c f = absurd f
 
   -- what it hands out at its end
-  pub ended-meets : (middle : FolderView) (texts : RunTexts) → ReadsRun old input options.script options.turns texts → run_refusal options.settings texts ≡ None → (g : Given) → g ≡ given_by job options.settings texts
-      → (t : Traced) (parts : List (List ℕ)) → Ran g (all_tell g.settings.workers s.before) s t parts → OnlyRead old middle → (answer : Outcome) → RunEnds middle new out_old out_new g t parts answer → Meets answer
-  ended-meets middle texts read accepted g is t parts ran only answer (inl unsaid) =
-      subst (λ (a : Outcome). Meets a) (sym unsaid.memory)
-      (inl (record {
-        held = ap (λ (v : FolderView). v.held) unsaid.folder ∙ only.held;
-        puts = ap (λ (v : FolderView). v.puts) unsaid.folder ∙ only.puts;
-        taken = ap (λ (v : SinkView). v.taken) unsaid.out;
-        faults = ap (λ (v : SinkView). v.faults) unsaid.out;
-      }))
-  ended-meets middle texts read accepted g is t parts ran only answer (inr handed) =
-      let may : MayDo old s options (record { early = []; files = run_files g t parts; summary = run_summary g t }) = where-accepted texts read accepted g is _
-      (λ files e. asks.works s files (record { early = []; files = run_files g t parts; summary = run_summary g t })
-      (subst (λ (q : Given). RunWorks q s (record { early = []; files = run_files g t parts; summary = run_summary g t })) e (t, parts, record { ran = ran; told = handed.told }, refl))) in
-      meets_at_end old middle new out_old out_new s options [] (run_files g t parts) (run_summary g t) answer may only.held (let k = only.puts in omega (arith, k)) handed.hands
+  pub ended-meets : (middle last : FolderView) (texts : RunTexts) → ReadsRun old input options.script options.turns texts → run_refusal options.settings texts ≡ None → (g : Given) → g ≡ given_by job options.settings texts
+      → (t : Traced) (parts : List (List ℕ)) → Ran g (all_tell g.settings.workers s.before) s t parts → OnlyRead old middle → RunSnaps g (all_tell g.settings.workers s.before) t middle last
+      → (answer : Outcome) → RunEnds last new out_old out_new g t parts answer → Meets answer
+  ended-meets middle last texts read accepted g is t parts ran only snaps answer (inl unsaid) =
+      let held : new.held ≡ with_files old.held snaps.early = ap (λ (v : FolderView). v.held) unsaid.folder ∙ snaps.held ∙ ap (λ (o : Option Files). with_files o snaps.early) only.held in
+      let may : AllByRecursion (MaySnap g (all_tell options.settings.workers s.before)) snaps.early =
+      subst (λ (n : ℕ). AllByRecursion (MaySnap g (all_tell n s.before)) snaps.early) (ap (λ (q : Given). q.settings.workers) is) snaps.may in
+      subst (λ (a : Outcome). Meets a) (sym unsaid.memory) (inr (inl (record { files = inl (early texts read accepted g is snaps.early may held); taken = ap (λ (v : SinkView). v.taken) unsaid.out })))
+  ended-meets middle last texts read accepted g is t parts ran only snaps answer (inr handed) =
+      let work : Work = record { early = snaps.early; files = run_files g t parts; summary = run_summary g t } in
+      let works : RunWorks g s work = record { t = t; texts = parts; reported = record { ran = ran; told = handed.told }; snaps = snaps.are; files = refl; summary = refl } in
+      let may : MayDo old s options work = where-accepted texts read accepted g is _ (λ files e. asks.works s files work (subst (λ (q : Given). RunWorks q s work) e works)) in
+      meets_at_end old last new out_old out_new s options snaps.early (run_files g t parts) (run_summary g t) answer may
+      (snaps.held ∙ ap (λ (o : Option Files). with_files o snaps.early) only.held) (let k = only.puts in let l = snaps.counts.puts in omega (arith, k, l)) handed.hands
 
 -- # What it leaves of the spill folders
 

@@ -7,19 +7,17 @@ use Rattle.std.specs.Option.{option_map}
 use Rattle.std.proofs.lemmas.Option.{same_Some, slice_get-map, slice_get_within}
 use Rattle.hop_base.specs.Files.{Files}
 use Rattle.hop_ports.specs.Views.{FolderView}
-use Rattle.hop_start.specs.Given.{IsSpillFolder, AreSpillFolders}
+use Rattle.hop_start.specs.Given.{AreSpillFolders}
 use Rattle.hop_actors.specs.Spilled.{IsSpilled}
 use Rattle.hop_actors.specs.declared.fault.Fault.{Fault}
 use Rattle.hop_actors.specs.declared.fault.Fault.TheVariants as fault
-use Rattle.hop_replay.specs.Driven.{IsSpent, Traced}
+use Rattle.hop_replay.specs.Driven.{Traced}
 use Rattle.hop_replay.specs.Folders.{Spilling, NoneFailed, OnlySpillsPut, Stopped, WorkerFaults, NamesWorker as FaultNames}
 use Rattle.hop_replay.specs.Given.{Given}
-use Rattle.hop_replay.specs.Replayed.{AreSpilled, Ran}
-use Rattle.hop_top.specs.Ends.{RunFails}
+use Rattle.hop_replay.specs.Replayed.{Ran}
 use Rattle.hop_words.specs.Options.{Asked, AskedOptions, block, run, replay}
 use Rattle.hop_top.specs.Spilling.{CommandLeaves, LeavesSpills, NamesWorker, RunLeaves, SpillsLeft, WorkerAnswers, all_tell, tells}
 use Rattle.hop_top.specs.Stops.{outcome_of}
-use Rattle.hop_top.specs.declared.outcome.Outcome.{Outcome}
 use Rattle.hop_top.specs.declared.outcome.Outcome.TheVariants as outcome
 
 -- # Lists
@@ -169,7 +167,7 @@ module _ {V : Type 0} (seen : V → FolderView) (workers : ℕ) (all kept others
     names (fault.SpillDamaged worker at kept found) h = h
     names (fault.SpillCollides worker at place) h = h
     names (fault.SpentAt split) h = tt
-    names fault.FolderFailed h = absurd h
+    names fault.FolderFailed h = tt
     names fault.NoMemory h = tt
 
     answers : (w : ℕ) (a b : FolderView) (f : Fault) → WorkerFaults w a b f → WorkerAnswers w a b (outcome_of f)
@@ -191,16 +189,6 @@ module _ {V : Type 0} (seen : V → FolderView) (workers : ℕ) (all kept others
       };
       others = others-at;
     }
-
--- # What a fault says
-
-pub fails-so : (g : Given) (workers : ℕ) (f : Fault) → FaultNames workers f → ((split : ℕ) → f ≡ fault.SpentAt split → IsSpent g split) → RunFails g (outcome_of f)
-fails-so g workers (fault.SpentAt split) h spent = spent split refl
-fails-so g workers fault.FolderFailed h spent = absurd h
-fails-so g workers (fault.SpillFailed worker) h spent = tt
-fails-so g workers (fault.SpillDamaged worker at kept found) h spent = tt
-fails-so g workers (fault.SpillCollides worker at place) h spent = tt
-fails-so g workers fault.NoMemory h spent = tt
 
 -- # Folders that nothing was done to
 

@@ -1,22 +1,48 @@
 -- How a run ends that was begun.
-use Rattle.std.specs.Prelude.{◌≡◌, ◌⊎◌, List, ℕ}
+use Rattle.std.specs.Prelude.{◌≡◌, ◌⊎◌, Bool, List, ℕ}
+use Rattle.std.specs.List.{AllByRecursion}
+use Rattle.hop_base.specs.Causes.{Rose}
 use Rattle.hop_ports.specs.Views.{FolderView, SinkView}
-use Rattle.hop_replay.specs.Driven.{IsSpent, Traced}
+use Rattle.hop_replay.specs.Driven.{Traced}
+use Rattle.hop_replay.specs.Folders.{SameCounts}
 use Rattle.hop_replay.specs.Given.{Given}
 use Rattle.hop_trace.specs.Told.{IsTold}
-use Rattle.hop_top.specs.Puts.{HandsOut}
+use Rattle.hop_top.specs.Puts.{HandsOut, Puts, with_files}
 use Rattle.hop_top.specs.Runs.{in_order, run_files, run_summary}
+use Rattle.hop_top.specs.Snaps.{AreSnaps, MaySnap, SpentWith}
 use Rattle.hop_top.specs.declared.outcome.Outcome.{Outcome}
 use Rattle.hop_top.specs.declared.outcome.Outcome.TheVariants as outcome
 
--- It stopped: a split has no attempt left, a spill folder failed, or memory was wanting.
-abbrev pub RunFails : Given → Outcome → Type 0
-RunFails g (outcome.RetriesSpent split) = IsSpent g split
-RunFails g (outcome.SpillFailed worker) = Unit {0}
-RunFails g (outcome.SpillDamaged worker at kept found) = Unit {0}
-RunFails g (outcome.SpillCollides worker at place) = Unit {0}
-RunFails g outcome.NoMemory = Unit {0}
-RunFails g other = ⊥
+-- why it stopped: a split has no attempt left, a folder failed, or memory was wanting
+abbrev pub RunStops : Given → Bool → Puts → Outcome → Type 0
+RunStops g tells early (outcome.RetriesSpent split) = SpentWith g tells split early
+RunStops g tells early outcome.FolderFailed = Unit {0}
+RunStops g tells early (outcome.SpillFailed worker) = Unit {0}
+RunStops g tells early (outcome.SpillDamaged worker at kept found) = Unit {0}
+RunStops g tells early (outcome.SpillCollides worker at place) = Unit {0}
+RunStops g tells early outcome.NoMemory = Unit {0}
+RunStops g tells early other = ⊥
+
+-- what an answer says of the counts of the job folder while a run went on: a put failed only where it says so
+abbrev pub JobAnswers : FolderView → FolderView → Outcome → Type 0
+JobAnswers a b outcome.FolderFailed = (b.gets ≡ a.gets) × Rose a.puts b.puts
+JobAnswers a b other = SameCounts a b
+
+-- It stopped: the job folder has the snapshots more that were put before.
+pub record RunFails (g : Given) (tells : Bool) (old new : FolderView) (answer : Outcome) : Type 0 where
+  pub early : Puts
+  pub may : AllByRecursion (MaySnap g tells) early
+  pub held : new.held ≡ with_files old.held early
+  pub counts : JobAnswers old new answer
+  pub why : RunStops g tells early answer
+
+-- It came to its end: the job folder has the snapshots more of the cuts of its histories, in the order in which they were put.
+pub record RunSnaps (g : Given) (tells : Bool) (t : Traced) (old new : FolderView) : Type 0 where
+  pub early : Puts
+  pub may : AllByRecursion (MaySnap g tells) early
+  pub are : AreSnaps g tells t early
+  pub held : new.held ≡ with_files old.held early
+  pub counts : SameCounts old new
 
 module _ (old new : FolderView) (out_old out_new : SinkView) (g : Given) (t : Traced) (texts : List (List ℕ)) where
   -- memory was wanting before anything was put or written

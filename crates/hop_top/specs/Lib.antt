@@ -7,6 +7,7 @@ pub mod Puts
 pub mod Reading
 pub mod Report
 pub mod Runs
+pub mod Snaps
 pub mod Spilling
 pub mod Stops
 pub mod Work

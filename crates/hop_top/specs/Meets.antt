@@ -46,7 +46,7 @@ module _ (old new : FolderView) (out_old out_new : SinkView) (s : Spilling) wher
 
   -- while it ran, files were put that the command may put
   abbrev pub Early : AskedOptions → Type 0
-  Early options = WhereAccepted old options (λ files. (early : Puts) × AllByRecursion (MayPutEarly options.command files) early × (new.held ≡ with_files old.held early))
+  Early options = WhereAccepted old options (λ files. (early : Puts) × AllByRecursion (MayPutEarly options.command options s files) early × (new.held ≡ with_files old.held early))
 
   -- it ran, and the first of its files were put
   abbrev pub Late : AskedOptions → Type 0
@@ -63,6 +63,10 @@ module _ (old new : FolderView) (out_old out_new : SinkView) (s : Spilling) wher
     pub files : Early options
     pub taken : out_new.taken ≡ out_old.taken
 
+  -- a split had no attempt left, and just the files were put that this says
+  abbrev pub SpentAfter : AskedOptions → ℕ → Type 0
+  SpentAfter options split = WhereAccepted old options (λ files. (early : Puts) × Spends options s files split early × (new.held ≡ with_files old.held early))
+
   -- all files were put and a prefix of the summary was written
   abbrev pub Unsaid : AskedOptions → Type 0
   Unsaid options = Does old s options (λ work. (new.held ≡ with_files old.held (work.early ++ work.files)) × TookPrefix out_old out_new work.summary)
@@ -77,7 +81,7 @@ module _ (old new : FolderView) (out_old out_new : SinkView) (s : Spilling) wher
   MeetsOptions options (outcome.InputRefused (refusal.TooManySplits count)) = Refused options (outcome.InputRefused (refusal.TooManySplits count)) × Untouched
   MeetsOptions options (outcome.InputRefused (refusal.TooManySpills count)) = Refused options (outcome.InputRefused (refusal.TooManySpills count)) × Untouched
   MeetsOptions options (outcome.ScriptRefused file line) = Refused options (outcome.ScriptRefused file line) × Untouched
-  MeetsOptions options (outcome.RetriesSpent split) = WhereAccepted old options (λ files. Spends options files split) × Broken options
+  MeetsOptions options (outcome.RetriesSpent split) = SpentAfter options split × Broken options
   MeetsOptions options outcome.FolderFailed = Rose old.puts new.puts × Stopped options
   MeetsOptions options (outcome.SpillFailed worker) = Broken options
   MeetsOptions options (outcome.SpillDamaged worker at kept found) = Broken options

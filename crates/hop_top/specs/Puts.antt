@@ -1,11 +1,11 @@
 -- Files that are put one after another.
-use Rattle.std.specs.Prelude.{◌≡◌, ◌⊎◌, ◌+◌, ℕ, List, [], ◌∷◌, ◌++◌, map, take, Option, codes, decimal, string_bytes}
+use Rattle.std.specs.Prelude.{◌≡◌, ◌⊎◌, ◌+◌, ℕ, List, [], ◌∷◌, ◌++◌, map, take, codes, decimal, string_bytes}
 use Rattle.hop_base.specs.Causes.{Rose}
-use Rattle.hop_base.specs.Files.{Files}
-use Rattle.hop_ports.specs.Views.{FolderView, SinkView, appended, with_file}
+use Rattle.hop_ports.specs.Views.{FolderView, SinkView, appended}
 use Rattle.hop_ports.specs.Causes.{TookPrefix}
 use Rattle.hop_ports.specs.declared.folder.PutFault.{PutFault}
 use Rattle.hop_ports.specs.declared.folder.PutFault.TheVariants.{Failed, NoMemory}
+pub use Rattle.hop_writer.specs.Snapshots.{with_files}
 use Rattle.hop_top.specs.declared.puts.NamedFile.{NamedFile}
 use Rattle.hop_top.specs.declared.outcome.Outcome.{Outcome}
 use Rattle.hop_top.specs.declared.outcome.Outcome.TheVariants as outcome
@@ -19,11 +19,6 @@ pub record Work : Type 0 where
   pub early : Puts
   pub files : Puts
   pub summary : List ℕ
-
--- the same files, with these put one after another
-abbrev pub with_files : Option Files → Puts → Option Files
-with_files held [] = held
-with_files held (file ∷ others) = with_files (with_file held file.0 file.1) others
 
 -- the name of the part file of partition p
 abbrev pub part_name : ℕ → List ℕ

@@ -10,6 +10,7 @@ use Rattle.hop_trace.specs.Told.{IsTold}
 use Rattle.hop_trace.specs.Totals.{kept_in_all}
 use Rattle.hop_trace.specs.Trace.{trace_of}
 use Rattle.hop_top.specs.Puts.{Puts, Work, part_files}
+use Rattle.hop_top.specs.Snaps.{AreSnaps}
 use Rattle.hop_top.specs.Spilling.{all_tell}
 
 -- ---- what is traced
@@ -55,6 +56,11 @@ pub record Reported (g : Given) (s : Spilling) (t : Traced) (texts : List (List 
   pub ran : Ran g (all_tell g.settings.workers s.before) s t texts
   pub told : IsTold g.job.name t.begun (in_order t)
 
--- the work of such a run
-abbrev pub RunWorks : Given → Spilling → Work → Type 0
-RunWorks g s work = (t : Traced) × (texts : List (List ℕ)) × Reported g s t texts × (work ≡ record { early = []; files = run_files g t texts; summary = run_summary g t })
+-- The work of such a run: its snapshots while it ran, and at its end its other files and the summary.
+pub record RunWorks (g : Given) (s : Spilling) (work : Work) : Type 0 where
+  pub t : Traced
+  pub texts : List (List ℕ)
+  pub reported : Reported g s t texts
+  pub snaps : AreSnaps g (all_tell g.settings.workers s.before) t work.early
+  pub files : work.files ≡ run_files g t texts
+  pub summary : work.summary ≡ run_summary g t

@@ -9,12 +9,13 @@ use Rattle.hop_words.specs.declared.options.Command.{Command}
 use Rattle.hop_words.specs.declared.options.Command.TheVariants.{Block, Run, Replay}
 use Rattle.hop_words.specs.Options.{Asked, AskedOptions, block, run, replay}
 use Rattle.hop_replay.specs.Given.{Given}
-use Rattle.hop_replay.specs.Driven.{IsSpent}
 use Rattle.hop_replay.specs.Folders.{Spilling}
 use Rattle.hop_top.specs.Plans.{given_by, long_refusal, run_refusal}
-use Rattle.hop_top.specs.Puts.{Work, part_files}
+use Rattle.hop_top.specs.Puts.{Puts, Work, part_files}
 use Rattle.hop_top.specs.Reading.{AreReadable, RunTexts, bytes_of, reads_of, texts_held}
 use Rattle.hop_top.specs.Runs.{RunWorks}
+use Rattle.hop_top.specs.Snaps.{MaySnap, SpentWith}
+use Rattle.hop_top.specs.Spilling.{all_tell}
 use Rattle.hop_top.specs.declared.outcome.Outcome.{Outcome}
 
 -- ---- refusals
@@ -64,11 +65,11 @@ CommandWorks (replay job input) options s files work = RunWorks (run_given optio
 abbrev pub Works : AskedOptions → Spilling → Files → Work → Type 0
 Works options s files work = CommandWorks options.command options s files work
 
--- a file that the command may put while it runs: a run without marks puts none
-abbrev pub MayPutEarly : Asked → Files → List ℕ × List ℕ → Type 0
-MayPutEarly (block job input) files file = ⊥
-MayPutEarly (run job input) files file = ⊥
-MayPutEarly (replay job input) files file = ⊥
+-- a file that the command may put while it runs: a run puts snapshots
+abbrev pub MayPutEarly : Asked → AskedOptions → Spilling → Files → List ℕ × List ℕ → Type 0
+MayPutEarly (block job input) options s files file = ⊥
+MayPutEarly (run job input) options s files file = MaySnap (run_given options job input files) (all_tell options.settings.workers s.before) file
+MayPutEarly (replay job input) options s files file = MaySnap (run_given options job input files) (all_tell options.settings.workers s.before) file
 
 -- the command is a run of this job over this input
 abbrev pub AsksRun : Command → Meaning → List ℕ → Type 0
@@ -82,11 +83,11 @@ IsRun (block job input) = ⊥
 IsRun (run job input) = Unit {0}
 IsRun (replay job input) = Unit {0}
 
--- the last attempt of the split may be spent
-abbrev pub CommandSpends : Asked → AskedOptions → Files → ℕ → Type 0
-CommandSpends (block job input) options files split = ⊥
-CommandSpends (run job input) options files split = IsSpent (run_given options job input files) split
-CommandSpends (replay job input) options files split = IsSpent (run_given options job input files) split
+-- the last attempt of the split is spent, and these files were put before
+abbrev pub CommandSpends : Asked → AskedOptions → Spilling → Files → ℕ → Puts → Type 0
+CommandSpends (block job input) options s files split early = ⊥
+CommandSpends (run job input) options s files split early = SpentWith (run_given options job input files) (all_tell options.settings.workers s.before) split early
+CommandSpends (replay job input) options s files split early = SpentWith (run_given options job input files) (all_tell options.settings.workers s.before) split early
 
-abbrev pub Spends : AskedOptions → Files → ℕ → Type 0
-Spends options files split = CommandSpends options.command options files split
+abbrev pub Spends : AskedOptions → Spilling → Files → ℕ → Puts → Type 0
+Spends options s files split early = CommandSpends options.command options s files split early

@@ -1,5 +1,5 @@
 //! How a run ends: what it puts and prints, or why it stopped.
-ghost use Rattle.std.specs.Prelude.{◌≡◌, ◌≤◌, ◌++◌, ◌∷◌, [], IfOk, length, sum, string_bytes};
+ghost use Rattle.std.specs.Prelude.{◌≡◌, ◌≤◌, ◌*◌, ◌++◌, ◌∷◌, [], IfOk, length, sum, string_bytes};
 ghost use Rattle.hop_laws.specs.Laws.{IsName};
 ghost use Rattle.hop_trace.specs.Told.{IsTold};
 ghost use Rattle.hop_trace.specs.Totals.{kept_in_all};
@@ -93,21 +93,33 @@ fn summary_line(
     )
 }
 
-/// What is printed at the end of a run without marks, of at most 1,024 splits and 8 reducers.
+/// What is printed at the end of a run of at most 1,024 splits, 8 reducers and 16 marks.
 pub fn run_summary(
     alloc: Global,
     records: u32,
     splits: u32,
     parts: u8,
+    marks: u32,
     begun: &[u8],
     histories: &[History],
 ) -> Result<String, AllocError>
     requires splits { length begun.now ≤ 1024 }
     requires reducers { length histories.now ≤ 8 }
-    ensures { IfOk result (λ text. string_bytes text ≡ summary_text records splits parts 0 (sum begun.now) (kept_in_all Pulled (in_order histories.now)) (kept_in_all Settled (in_order histories.now))) }
+    requires parts { parts ≤ 8 }
+    requires marks { marks ≤ 16 }
+    ensures { IfOk result (λ text. string_bytes text ≡ summary_text records splits parts (parts * marks) (sum begun.now) (kept_in_all Pulled (in_order histories.now)) (kept_in_all Settled (in_order histories.now))) }
 {
     let attempts = attempts_in_all(begun);
     let pulled = kept_in_all(Way::Pulled, histories);
     let settled = kept_in_all(Way::Settled, histories);
-    summary_line(alloc, records, splits, parts, 0, attempts, pulled, settled)
+    summary_line(
+        alloc,
+        records,
+        splits,
+        parts,
+        parts as u32 * marks,
+        attempts,
+        pulled,
+        settled,
+    )
 }

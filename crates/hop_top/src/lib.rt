@@ -1,6 +1,7 @@
 //! The top call: the words are read, the command is done, and the outcome says how it ended.
 #![tactic(auto)]
 
+pub mod answered;
 pub mod block;
 pub mod check;
 pub mod ending;

@@ -7,13 +7,14 @@ ghost use Rattle.hop_replay.specs.Replayed.{Ran};
 ghost use Rattle.hop_script.specs.TurnLines.{IsTurn};
 ghost use Rattle.hop_words.specs.Names.{is_name};
 ghost use Rattle.hop_words.specs.Options.{NamesFile, options_of, settings_of};
-ghost use Rattle.hop_top.specs.Ends.{RunFails, RunEnds};
+ghost use Rattle.hop_top.specs.Ends.{RunEnds, RunFails, RunSnaps};
 ghost use Rattle.hop_top.specs.Faults.{FaultsAnswered};
 ghost use Rattle.hop_top.specs.Meets.{MeetsOptions};
 ghost use Rattle.hop_top.specs.Plans.{actors_in, given_by_plan};
 ghost use Rattle.hop_top.specs.Spilling.{RunLeaves, LeavesSpills, all_tell};
 ghost use Rattle.hop_top.specs.Work.{AsksRun};
 
+use crate::answered::Answered;
 use crate::check::{Plan, planned};
 use crate::ending::{outcome_of, run_files, run_summary};
 use crate::outcome::Outcome;
@@ -23,7 +24,7 @@ use hop_base::{Settings, Text};
 use hop_jobs::Known;
 use hop_laws::Job;
 use hop_ports::{Folder, OpenGate, Sink};
-use hop_replay::{RunEnd, replay};
+use hop_replay::{Replayed, RunEnd, replay};
 use hop_words::Options;
 use std::alloc::Global;
 use std::marker::Brand;
@@ -48,32 +49,43 @@ fn set_apart<V: Folder + Drop>(spills: &mut Vec<V>, count: u8, others: &mut Vec<
     }
 }
 
-// The run of the plan over the spill folders of its workers, which are the first ones. The others are kept apart.
-fn run_plan<V: Folder + Drop>(
+// How a run ended, with the job folder.
+#[derive(Drop)]
+struct PlanEnd<F> {
+    end: Result<RunEnd, Outcome>,
+    folder: F,
+}
+
+// The run of the plan over the spill folders of its workers, which are the first ones. The others are kept apart. Its snapshots are put in the job folder.
+fn run_plan<F: Folder, V: Folder + Drop>(
     alloc: Global,
     job: &Known,
     plan: &Plan,
     settings: &Settings,
+    folder: F,
     spills: &mut Vec<V>,
-) -> Result<RunEnd, Outcome>
+) -> PlanEnd<F>
     requires spills { vec_len spills.old ≡ 8 }
     requires book { IsBook plan.now.book }
     requires split { plan.now.book.split ≡ settings.now.split }
     requires turns { All (IsTurn (actors_in (settings_of settings.now))) plan.now.turns }
     requires delays { (w : ℕ) → delay_of plan.now.script w ≤ 10000 }
-    requires unmarked { settings.now.marks ≡ [] }
     requires alone { settings.now.backup ≡ false }
-    ensures ran { IfOk result (λ end. Ran (given_by_plan (known_meaning job.now) (settings_of settings.now) plan.now) (all_tell settings.now.workers (map V.seen spills.old.items)) (record { before = map V.seen spills.old.items; after = map V.seen spills.new.items }) (record { begun = end.begun.items; histories = map (λ h. h.events) end.histories.items }) end.texts) }
-    ensures fault { IfErr result (RunFails (given_by_plan (known_meaning job.now) (settings_of settings.now) plan.now)) }
-    ensures left { OnOk result (LeavesSpills settings.now.workers (record { before = map V.seen spills.old.items; after = map V.seen spills.new.items })) }
-    ensures leaves { IfErr result (RunLeaves settings.now.workers (record { before = map V.seen spills.old.items; after = map V.seen spills.new.items })) }
+    ensures ran { IfOk result.end (λ end. Ran (given_by_plan (known_meaning job.now) (settings_of settings.now) plan.now) (all_tell settings.now.workers (map V.seen spills.old.items)) (record { before = map V.seen spills.old.items; after = map V.seen spills.new.items }) (record { begun = end.begun.items; histories = map (λ h. h.events) end.histories.items }) end.texts) }
+    ensures snaps { IfOk result.end (λ end. RunSnaps (given_by_plan (known_meaning job.now) (settings_of settings.now) plan.now) (all_tell settings.now.workers (map V.seen spills.old.items)) (record { begun = end.begun.items; histories = map (λ h. h.events) end.histories.items }) (F.seen folder) (F.seen result.folder)) }
+    ensures fault { IfErr result.end (RunFails (given_by_plan (known_meaning job.now) (settings_of settings.now) plan.now) (all_tell settings.now.workers (map V.seen spills.old.items)) (F.seen folder) (F.seen result.folder)) }
+    ensures left { OnOk result.end (LeavesSpills settings.now.workers (record { before = map V.seen spills.old.items; after = map V.seen spills.new.items })) }
+    ensures leaves { IfErr result.end (RunLeaves settings.now.workers (record { before = map V.seen spills.old.items; after = map V.seen spills.new.items })) }
     ensures count { vec_len spills.new ≡ 8 }
 {
     let Ok(mut others) = Vec::with_capacity(alloc, spills.len()) else {
-        return Err(Outcome::NoMemory);
+        return PlanEnd {
+            end: Err(Outcome::NoMemory),
+            folder,
+        };
     };
     set_apart(spills, settings.workers, &mut others);
-    let end = replay::<Brand, V, Known, OpenGate>(
+    let Replayed { end, folder } = replay::<Brand, F, V, Known, OpenGate>(
         alloc,
         job,
         &plan.book,
@@ -81,6 +93,7 @@ fn run_plan<V: Folder + Drop>(
         settings,
         &plan.turns,
         &OpenGate,
+        folder,
         spills,
     );
     match spills.append(&mut others) {
@@ -88,8 +101,14 @@ fn run_plan<V: Folder + Drop>(
         Err(_) => unreachable!(),
     }
     match end {
-        Ok(end) => Ok(end),
-        Err(fault) => Err(outcome_of(fault)),
+        Ok(end) => PlanEnd {
+            end: Ok(end),
+            folder,
+        },
+        Err(fault) => PlanEnd {
+            end: Err(outcome_of(fault)),
+            folder,
+        },
     }
 }
 
@@ -108,7 +127,6 @@ fn finish<F: Folder, O: Sink>(
     requires parts { length end.texts ≤ 8 }
     requires book { IsBook plan.now.book }
     requires split { plan.now.book.split ≡ settings.now.split }
-    requires unmarked { settings.now.marks ≡ [] }
     ensures ends { RunEnds (F.seen folder.old) (F.seen folder.new) (O.seen out.old) (O.seen out.new) (given_by_plan (known_meaning job.now) (settings_of settings.now) plan.now) (record { begun = end.begun.items; histories = map (λ h. h.events) end.histories.items }) end.texts result }
     ensures answered { FaultsAnswered (F.seen folder.old) (F.seen folder.new) (O.seen out.old) (O.seen out.new) result }
 {
@@ -128,6 +146,7 @@ fn finish<F: Folder, O: Sink>(
         plan.book.records(),
         plan.book.splits(),
         settings.reducers,
+        settings.marks.as_slice().len() as u32,
         &begun,
         &histories,
     ) else {
@@ -136,40 +155,44 @@ fn finish<F: Folder, O: Sink>(
     hand_out(folder, out, &files, summary.as_str())
 }
 
-/// The pipelined job over the input, on one thread: a part file for each partition, and the trace. The spill folders of the workers
-/// take their spills, and the others are left alone. It has no marks and no backups.
+/// The pipelined job over the input, on one thread: the snapshots at its marks while it runs, a part file for each partition, and the trace. The spill folders of the workers
+/// take their spills, and the others are left alone. It has no backups.
 pub fn run_job<F: Folder, V: Folder + Drop, O: Sink>(
     alloc: Global,
     job: &Known,
     input: &Text,
     options: &Options,
-    folder: &mut F,
+    folder: F,
     spills: &mut Vec<V>,
     out: &mut O,
-) -> Outcome
+) -> Answered<F>
     requires spills { vec_len spills.old ≡ 8 }
     requires input { is_name input.now ≡ true }
     requires script { NamesFile options.now.script }
     requires turns { NamesFile options.now.turns }
-    requires unmarked { options.now.settings.marks ≡ [] }
     requires alone { options.now.settings.backup ≡ false }
     requires asked { AsksRun options.now.command (known_meaning job.now) input.now }
-    ensures meets { MeetsOptions (F.seen folder.old) (F.seen folder.new) (O.seen out.old) (O.seen out.new) (record { before = map V.seen spills.old.items; after = map V.seen spills.new.items }) (options_of options.now) result }
-    ensures answered { FaultsAnswered (F.seen folder.old) (F.seen folder.new) (O.seen out.old) (O.seen out.new) result }
-    ensures leaves { RunLeaves options.now.settings.workers (record { before = map V.seen spills.old.items; after = map V.seen spills.new.items }) result }
+    ensures meets { MeetsOptions (F.seen folder) (F.seen result.folder) (O.seen out.old) (O.seen out.new) (record { before = map V.seen spills.old.items; after = map V.seen spills.new.items }) (options_of options.now) result.outcome }
+    ensures answered { FaultsAnswered (F.seen folder) (F.seen result.folder) (O.seen out.old) (O.seen out.new) result.outcome }
+    ensures leaves { RunLeaves options.now.settings.workers (record { before = map V.seen spills.old.items; after = map V.seen spills.new.items }) result.outcome }
     ensures count { vec_len spills.new ≡ 8 }
 {
     let settings = &options.settings;
-    let texts = match read_run(alloc, folder, input, &options.script, &options.turns) {
+    let mut folder = folder;
+    let texts = match read_run(alloc, &mut folder, input, &options.script, &options.turns) {
         Ok(texts) => texts,
-        Err(fault) => return fault,
+        Err(outcome) => return Answered { outcome, folder },
     };
     let plan = match planned(alloc, texts, settings) {
         Ok(plan) => plan,
-        Err(fault) => return fault,
+        Err(outcome) => return Answered { outcome, folder },
     };
-    match run_plan(alloc, job, &plan, settings, spills) {
-        Ok(end) => finish(alloc, job, &plan, settings, end, folder, out),
-        Err(fault) => fault,
+    let PlanEnd { end, mut folder } = run_plan(alloc, job, &plan, settings, folder, spills);
+    match end {
+        Ok(end) => {
+            let outcome = finish(alloc, job, &plan, settings, end, &mut folder, out);
+            Answered { outcome, folder }
+        }
+        Err(outcome) => Answered { outcome, folder },
     }
 }

@@ -1,11 +1,12 @@
 //! The top call.
-ghost use Rattle.std.specs.Prelude.{◌≡◌, [], false, Some, map, vec_len};
+ghost use Rattle.std.specs.Prelude.{◌≡◌, false, Some, map, vec_len};
 ghost use Rattle.hop_words.specs.Options.{HasFiles, asked, options_of};
-ghost use Rattle.hop_top.specs.Complete.{IsComplete, IsNeverDone};
+ghost use Rattle.hop_top.specs.Complete.{IsComplete, IsNeverDone, IsSpentSo};
 ghost use Rattle.hop_top.specs.Faults.{FaultsAnswered};
 ghost use Rattle.hop_top.specs.Meets.{Meets, MeetsOptions};
 ghost use Rattle.hop_top.specs.Spilling.{SpillsLeft};
 
+use crate::answered::Answered;
 use crate::block::block;
 use crate::outcome::Outcome;
 use crate::run::run_job;
@@ -28,22 +29,25 @@ pub struct Handed<A, F, V> {
 fn run<F: Folder, V: Folder + Drop, O: Sink>(
     alloc: Global,
     options: &Options,
-    folder: &mut F,
+    folder: F,
     spills: &mut Vec<V>,
     out: &mut O,
-) -> Outcome
+) -> Answered<F>
     requires files { HasFiles options.now }
     requires spills { vec_len spills.old ≡ 8 }
-    requires unmarked { options.now.settings.marks ≡ [] }
     requires alone { options.now.settings.backup ≡ false }
-    ensures meets { MeetsOptions (F.seen folder.old) (F.seen folder.new) (O.seen out.old) (O.seen out.new) (record { before = map V.seen spills.old.items; after = map V.seen spills.new.items }) (options_of options.now) result }
-    ensures answered { FaultsAnswered (F.seen folder.old) (F.seen folder.new) (O.seen out.old) (O.seen out.new) result }
-    ensures left { SpillsLeft (Some (options_of options.now)) (record { before = map V.seen spills.old.items; after = map V.seen spills.new.items }) result }
+    ensures meets { MeetsOptions (F.seen folder) (F.seen result.folder) (O.seen out.old) (O.seen out.new) (record { before = map V.seen spills.old.items; after = map V.seen spills.new.items }) (options_of options.now) result.outcome }
+    ensures answered { FaultsAnswered (F.seen folder) (F.seen result.folder) (O.seen out.old) (O.seen out.new) result.outcome }
+    ensures left { SpillsLeft (Some (options_of options.now)) (record { before = map V.seen spills.old.items; after = map V.seen spills.new.items }) result.outcome }
     ensures count { vec_len spills.new ≡ 8 }
 {
     let settings = &options.settings;
     match &options.command {
-        Command::Block { job, input } => block(alloc, job, input, settings, folder, out),
+        Command::Block { job, input } => {
+            let mut folder = folder;
+            let outcome = block(alloc, job, input, settings, &mut folder, out);
+            Answered { outcome, folder }
+        }
         Command::Run { job, input } => run_job(alloc, job, input, options, folder, spills, out),
         Command::Replay { job, input } => run_job(alloc, job, input, options, folder, spills, out),
     }
@@ -53,20 +57,26 @@ fn run<F: Folder, V: Folder + Drop, O: Sink>(
 fn answer<F: Folder, V: Folder + Drop, O: Sink>(
     alloc: Global,
     words: &Words,
-    folder: &mut F,
+    folder: F,
     spills: &mut Vec<V>,
     out: &mut O,
-) -> Outcome
+) -> Answered<F>
     requires { vec_len spills.old ≡ 8 }
-    ensures meets { Meets (F.seen folder.old) (F.seen folder.new) (O.seen out.old) (O.seen out.new) (record { before = map V.seen spills.old.items; after = map V.seen spills.new.items }) (asked words.now) result }
-    ensures answered { FaultsAnswered (F.seen folder.old) (F.seen folder.new) (O.seen out.old) (O.seen out.new) result }
-    ensures left { SpillsLeft (asked words.now) (record { before = map V.seen spills.old.items; after = map V.seen spills.new.items }) result }
+    ensures meets { Meets (F.seen folder) (F.seen result.folder) (O.seen out.old) (O.seen out.new) (record { before = map V.seen spills.old.items; after = map V.seen spills.new.items }) (asked words.now) result.outcome }
+    ensures answered { FaultsAnswered (F.seen folder) (F.seen result.folder) (O.seen out.old) (O.seen out.new) result.outcome }
+    ensures left { SpillsLeft (asked words.now) (record { before = map V.seen spills.old.items; after = map V.seen spills.new.items }) result.outcome }
     ensures count { vec_len spills.new ≡ 8 }
 {
     match read_words(alloc, words) {
         Ok(options) => run(alloc, &options, folder, spills, out),
-        Err(WordsFault::Usage) => Outcome::Usage,
-        Err(WordsFault::NoMemory) => Outcome::NoMemory,
+        Err(WordsFault::Usage) => Answered {
+            outcome: Outcome::Usage,
+            folder,
+        },
+        Err(WordsFault::NoMemory) => Answered {
+            outcome: Outcome::NoMemory,
+            folder,
+        },
     }
 }
 
@@ -87,14 +97,14 @@ pub fn hop_plain<F: Folder, V: Folder + Drop, O: Sink>(
     ensures answered { FaultsAnswered (F.seen folder) (F.seen result.folder) (O.seen out.old) (O.seen out.new) result.answer }
     ensures complete { IsComplete (F.seen folder) (F.seen result.folder) (O.seen out.old) (O.seen out.new) (record { before = map V.seen spills.items; after = map V.seen result.spills.items }) (asked words.now) result.answer }
     ensures doomed { IsNeverDone (F.seen folder) (F.seen result.folder) (O.seen out.old) (O.seen out.new) (record { before = map V.seen spills.items; after = map V.seen result.spills.items }) (asked words.now) result.answer }
+    ensures spent { IsSpentSo (F.seen folder) (F.seen result.folder) (O.seen out.old) (O.seen out.new) (record { before = map V.seen spills.items; after = map V.seen result.spills.items }) (asked words.now) result.answer }
     ensures spills { SpillsLeft (asked words.now) (record { before = map V.seen spills.items; after = map V.seen result.spills.items }) result.answer }
     ensures count { vec_len result.spills ≡ 8 }
 {
-    let mut folder = folder;
     let mut spills = spills;
-    let answer = answer(alloc, words, &mut folder, &mut spills, out);
+    let Answered { outcome, folder } = answer(alloc, words, folder, &mut spills, out);
     Handed {
-        answer,
+        answer: outcome,
         folder,
         spills,
     }
@@ -121,6 +131,7 @@ where
     ensures answered { FaultsAnswered (F.seen folder) (F.seen result.folder) (O.seen out.old) (O.seen out.new) result.answer }
     ensures complete { IsComplete (F.seen folder) (F.seen result.folder) (O.seen out.old) (O.seen out.new) (record { before = map V.seen spills.items; after = map V.seen result.spills.items }) (asked words.now) result.answer }
     ensures doomed { IsNeverDone (F.seen folder) (F.seen result.folder) (O.seen out.old) (O.seen out.new) (record { before = map V.seen spills.items; after = map V.seen result.spills.items }) (asked words.now) result.answer }
+    ensures spent { IsSpentSo (F.seen folder) (F.seen result.folder) (O.seen out.old) (O.seen out.new) (record { before = map V.seen spills.items; after = map V.seen result.spills.items }) (asked words.now) result.answer }
     ensures spills { SpillsLeft (asked words.now) (record { before = map V.seen spills.items; after = map V.seen result.spills.items }) result.answer }
     ensures count { vec_len result.spills ≡ 8 }
 {

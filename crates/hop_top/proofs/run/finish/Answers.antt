@@ -15,7 +15,7 @@ use Rattle.hop_words.specs.Options.{settings_of}
 use Rattle.hop_top.specs.Plans.{given_by_plan}
 use Rattle.hop_top.specs.Puts.{HandsOut, Puts, files_in, part_files}
 use Rattle.hop_top.specs.Runs.{in_order, run_files, run_summary, summary_text, trace_name}
-use Rattle.hop_top.proofs.FinishLaws.{in-order, lens-count, no-snapshots}
+use Rattle.hop_top.proofs.FinishLaws.{in-order, lens-count}
 use Rattle.hop_top.proofs.run.finish.Goals as goal
 
 pub returns-clause-ends : goal.returns-clause-ends
@@ -35,10 +35,10 @@ returns-clause-ends g c =
     let files : files_in c.deref-5.result.now ≡ run_files G t c.args.end.texts =
     ap files_in c.deref-5.ensures.value ∙ c.in-Ok-run_files.ensures.files ∙ (λ i. part_files 0 c.args.end.texts ++ (trace_name, trace_of (name i) (begun i) (order i)) ∷ []) in
     let splits : c.splits.result ≡ length (rules_given G).lens = c.splits.ensures.count ∙ sym (ap (λ (b : BookValue). length (lens_of b)) (λ i. record { records = book.records; split = sym c.requires.split i }) ∙ lens-count book) in
-    let snapshots : 0 ≡ settings.reducers * length settings.marks = sym (no-snapshots settings.reducers settings.marks c.requires.unmarked) in
+    let marks = ap length c.as_slice.ensures.value in
     let summary : c.as_str.result.now ≡ run_summary G t =
     c.as_str.ensures.value ∙ c.in-Ok-run_summary.ensures
-    ∙ (λ i. summary_text (c.records.ensures.count i) (splits i) settings.reducers (snapshots i) (sum (begun-later i)) (kept_in_all Pulled (order-later i)) (kept_in_all Settled (order-later i))) in
+    ∙ (λ i. summary_text (c.records.ensures.count i) (splits i) settings.reducers (settings.reducers * marks i) (sum (begun-later i)) (kept_in_all Pulled (order-later i)) (kept_in_all Settled (order-later i))) in
     inr (record {
       told = told;
       hands = subst (λ (k : Puts × List ℕ). HandsOut (g.F.Folder.seen c.args.folder.now) (g.F.Folder.seen c.hand_out.new.folder) (g.O.Sink.seen c.args.out.now) (g.O.Sink.seen c.hand_out.new.out) k.0 k.1 c.hand_out.result)

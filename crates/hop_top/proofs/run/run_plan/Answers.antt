@@ -1,20 +1,21 @@
-use Rattle.std.proofs.Common.{◌≡◌, ◌≤◌, ◌++◌, ℕ, List, length, map, refl, sym, ap, subst, arith}
+use Rattle.std.proofs.Common.{◌≡◌, ◌≤◌, Bool, List, length, map, refl, sym, subst, arith}
 use Rattle.std.proofs.lemmas.List.{length-map}
 use Rattle.hop_jobs.specs.Known.{known_meaning}
 use Rattle.hop_jobs.specs.KnownLaws.{known_lawful}
 use Rattle.hop_ports.specs.Views.{FolderView}
-use Rattle.hop_records.specs.Records.{BookValue}
 use Rattle.hop_replay.specs.Driven.{Traced}
 use Rattle.hop_replay.specs.Folders.{Spilling}
 use Rattle.hop_replay.specs.Given.{Given}
 use Rattle.hop_words.specs.Options.{settings_of}
-use Rattle.hop_top.specs.Ends.{RunFails}
+use Rattle.hop_top.specs.Ends.{RunFails, RunSnaps}
 use Rattle.hop_top.specs.Plans.{given_by_plan}
-use Rattle.hop_top.specs.Spilling.{RunLeaves}
+use Rattle.hop_top.specs.Spilling.{RunLeaves, all_tell}
+use Rattle.hop_top.specs.Stops.{outcome_of}
 use Rattle.hop_top.specs.declared.outcome.Outcome.{Outcome}
 use Rattle.hop_top.specs.declared.outcome.Outcome.TheVariants as outcome
 use Rattle.hop_top.proofs.RunLaws.{leaves-after}
-use Rattle.hop_top.proofs.SpillLaws.{first-folders, ran-whole, leaves-whole, stops-whole, fails-so, untouched}
+use Rattle.hop_top.proofs.SnapLaws.{fails-so, fails-unput, snaps-so}
+use Rattle.hop_top.proofs.SpillLaws.{first-folders, ran-whole, leaves-whole, stops-whole, tells-same, untouched}
 use Rattle.hop_top.proofs.run.run_plan.Goals as goal
 
 pub returns-in_default-clause-leaves : goal.returns-in_default-clause-leaves
@@ -49,7 +50,7 @@ returns-in-Ok-end-clause-ran g c =
     let G : Given = given_by_plan (known_meaning c.args.job.now) (settings_of c.args.settings.now) c.args.plan.now in
     let t : Traced = record { begun = c.in-Ok-end.end.begun.items; histories = map (λ h. h.events) c.in-Ok-end.end.histories.items } in
     ran-whole g.V.Folder.seen workers c.args.spills.now.items kept others c.set_apart.ensures.all count later c.append.new.self.items (sym c.in-Ok-append.ensures.items) c.replay-end.ensures.count
-    G t c.in-Ok-end.end.texts refl c.in-Ok-end.ensures.ran
+    G t c.in-Ok-end.end.texts refl (rw c.in-Ok-end.is at c.replay-end.ensures.ran)
 
 pub returns-in-Ok-end-clause-left : goal.returns-in-Ok-end-clause-left
 returns-in-Ok-end-clause-left g c =
@@ -57,12 +58,39 @@ returns-in-Ok-end-clause-left g c =
     let kept = c.set_apart.new.spills.items in let others = c.set_apart.new.others.items in let later = c.replay-end.new.folders.items in
     let count : length kept ≡ workers = omega (arith, n, own) in
     leaves-whole g.V.Folder.seen workers c.args.spills.now.items kept others c.set_apart.ensures.all count later c.append.new.self.items (sym c.in-Ok-append.ensures.items) c.replay-end.ensures.count
-    c.replay-end.ensures.only c.in-Ok-end.ensures.none
+    c.replay-end.ensures.only (rw c.in-Ok-end.is at c.replay-end.ensures.none)
 
 pub returns-clause-fault : goal.returns-clause-fault
 returns-clause-fault g c =
+    let F = g.F.Folder.seen in let seen = g.V.Folder.seen in
+    let n = c.set_apart.ensures.count in let own = c.set_apart.new.spills.ok in let workers = c.args.settings.now.workers in
+    let kept = c.set_apart.new.spills.items in let others = c.set_apart.new.others.items in
+    let count : length kept ≡ workers = omega (arith, n, own) in
     let G : Given = given_by_plan (known_meaning c.args.job.now) (settings_of c.args.settings.now) c.args.plan.now in
-    subst (RunFails G) (sym c.outcome_of.ensures) (fails-so G c.args.settings.now.workers c.in-Err-end.fault c.in-Err-end.ensures.stopped.named c.in-Err-end.ensures.spent)
+    let old = F c.args.folder in let new = F c.replay-end.result.folder in
+    subst (RunFails G (all_tell workers (map seen c.args.spills.now.items)) old new) (sym c.outcome_of.ensures)
+    (subst (λ (b : Bool). RunFails G b old new (outcome_of c.in-Err-end.fault)) (tells-same seen workers c.args.spills.now.items kept others c.set_apart.ensures.all count)
+    (fails-so G (all_tell workers (map seen kept)) c.in-Err-end.fault old new (rw c.in-Err-end.is at c.replay-end.ensures.until)))
+
+pub returns-in-Ok-end-clause-snaps : goal.returns-in-Ok-end-clause-snaps
+returns-in-Ok-end-clause-snaps g c =
+    let F = g.F.Folder.seen in let seen = g.V.Folder.seen in
+    let n = c.set_apart.ensures.count in let own = c.set_apart.new.spills.ok in let workers = c.args.settings.now.workers in
+    let kept = c.set_apart.new.spills.items in let others = c.set_apart.new.others.items in
+    let count : length kept ≡ workers = omega (arith, n, own) in
+    let G : Given = given_by_plan (known_meaning c.args.job.now) (settings_of c.args.settings.now) c.args.plan.now in
+    let t : Traced = record { begun = c.in-Ok-end.end.begun.items; histories = map (λ h. h.events) c.in-Ok-end.end.histories.items } in
+    let old = F c.args.folder in let new = F c.replay-end.result.folder in
+    subst (λ (b : Bool). RunSnaps G b t old new) (tells-same seen workers c.args.spills.now.items kept others c.set_apart.ensures.all count)
+    (snaps-so G (all_tell workers (map seen kept)) t old new (rw c.in-Ok-end.is at c.replay-end.ensures.snapped))
+
+pub returns-in_default-clause-fault : goal.returns-in_default-clause-fault
+returns-in_default-clause-fault g c =
+    let workers = c.args.settings.now.workers in
+    fails-unput (given_by_plan (known_meaning c.args.job.now) (settings_of c.args.settings.now) c.args.plan.now) (all_tell workers (map g.V.Folder.seen c.args.spills.now.items)) (g.F.Folder.seen c.args.folder)
+
+pub replay-end-requires-clause-folder : goal.replay-end-requires-clause-folder
+replay-end-requires-clause-folder g c = refl
 
 pub returns-clause-leaves : goal.returns-clause-leaves
 returns-clause-leaves g c =
@@ -73,4 +101,4 @@ returns-clause-leaves g c =
     let s : Spilling = record { before = map g.V.Folder.seen all; after = map g.V.Folder.seen last } in
     subst (λ (o : Outcome). RunLeaves workers s o) (sym c.outcome_of.ensures)
     (stops-whole g.V.Folder.seen workers all kept others c.set_apart.ensures.all count later last (sym c.in-Ok-append.ensures.items) c.replay-end.ensures.count
-    c.in-Err-end.fault c.replay-end.ensures.only c.in-Err-end.ensures.stopped)
+    c.in-Err-end.fault c.replay-end.ensures.only (rw c.in-Err-end.is at c.replay-end.ensures.stopped))

@@ -1,4 +1,4 @@
-use Rattle.std.proofs.Common.{None, map}
+use Rattle.std.proofs.Common.{map}
 use Rattle.hop_jobs.specs.Known.{known_meaning}
 use Rattle.hop_ports.specs.Views.{FolderView}
 use Rattle.hop_words.specs.Options.{settings_of}
@@ -13,6 +13,6 @@ ghosts-replay g a = record {
   script = a.script.now;
   settings = settings_of a.settings.now;
   tells = all_tell a.settings.now.workers (map g.V.Folder.seen a.folders.now.items);
-  folder = None;
+  folder = (g.F.Folder.seen a.folder).held;
   spills = map (λ (s : FolderView). s.held) (map g.V.Folder.seen a.folders.now.items);
 }

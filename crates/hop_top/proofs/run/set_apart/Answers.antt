@@ -1,4 +1,4 @@
-use Rattle.std.proofs.Common.{◌≡◌, arith, [], ◌∷◌, ◌++◌, length, sym, ap, ◌∙◌, append-nil, append_assoc}
+use Rattle.std.proofs.Common.{arith, [], ◌∷◌, ◌++◌, length, sym, ap, ◌∙◌, append-nil, append_assoc}
 use Rattle.hop_top.proofs.run.set_apart.Goals as goal
 
 pub loop-spills-init : goal.loop-spills-init

@@ -1,13 +1,10 @@
-use Rattle.std.proofs.Common.{◌≤◌, List, length, map, arith}
+use Rattle.std.proofs.Common.{List, map, arith}
 use Rattle.std.proofs.lemmas.List.{length-map}
 use Rattle.hop_ports.specs.Views.{FolderView}
 use Rattle.hop_words.specs.Options.{asked, options_of}
 use Rattle.hop_top.proofs.PlainLaws.{asked-plain}
 use Rattle.hop_top.proofs.SpillLaws.{nothing-left}
 use Rattle.hop_top.proofs.top.answer.Goals as goal
-
-pub run-requires-clause-unmarked : goal.run-requires-clause-unmarked
-run-requires-clause-unmarked g c = (asked-plain c.args.words.now (options_of c.in-Ok.options) c.in-Ok.ensures.options).marks
 
 pub run-requires-clause-alone : goal.run-requires-clause-alone
 run-requires-clause-alone g c = (asked-plain c.args.words.now (options_of c.in-Ok.options) c.in-Ok.ensures.options).backup
