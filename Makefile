@@ -1,4 +1,4 @@
-# make demo: builds the program without proving it, and runs the sample job.
+# make demo: shows a snapshot of a small run, then builds the program without proving it, and runs the sample job.
 # make hop: proves and builds the program, and leaves it as ./hop.
 # make test: the gate over the whole repository, and then the checks over the real program.
 
@@ -6,10 +6,12 @@
 
 # `rt try` builds and runs it in a folder of its own, which it then removes with the files.
 demo:
-	@echo "Builds hop and counts the words of crates/hop_main/data/in.txt, with two workers and two reducers, by the"
-	@echo "fault script beside it: about two minutes. Its first attempt of split 0 fails, and reducer 1 restarts."
+	@echo "First a small run over folders in memory: its snapshot of half the input, its part and its trace."
+	@echo "Then hop itself counts the words of crates/hop_main/data/in.txt, with two workers and two reducers, by the"
+	@echo "fault script beside it: its first attempt of split 0 fails, and reducer 1 restarts. About four minutes."
 	@echo "Not proved by this command: make test proves all, in about an hour on four processors."
-	cd crates/hop_main && rt try --data in.txt=data/in.txt --data script=data/script -- run wc in.txt --reducers 2 --split 1 --script script
+	cd crates/hop_demo && rt try
+	cd crates/hop_main && rt try --data in.txt=data/in.txt --data script=data/script -- run wc in.txt --reducers 2 --split 1 --marks 5000 --script script
 	@echo "Attempts beyond the number of splits were tried again; what was pulled was lost by a restart and fetched from"
 	@echo "the workers' spills. The files went with the folder of that run: README, under Use, shows what they hold."
 	@echo "make hop proves the program, some half an hour, and leaves it as ./hop."

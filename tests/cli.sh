@@ -116,7 +116,8 @@ usage='hop: the words are not understood'
 for words in '' 'run wc in --k 0' 'run wc' 'block wc in --marks 5' 'run wc in --marks 5,5' 'block wc in --k' \
     'block wc in --k 3 --k 3' 'block wc in --k=0' 'block wc in --k 1001' 'block wc in --k -3' 'block wc in --reducers 9' \
     'block wc in --other 1' 'block wc in -k 3' 'block wc ../in' 'block wc .in' 'block wc' 'block wc in in' 'block sort in' \
-    'block wc in --k 000000000000000000003' '--help' 'block wc -'; do
+    'block wc in --k 000000000000000000003' '--help' 'block wc -' 'run wc in --marks 0' 'run wc in --marks 10001' 'run wc in --marks 5,4' \
+    'run wc in --marks 5,' 'run wc in --marks 1,2,3,4,5,6,7,8,9,10,11,12,13,14,15,16,17' 'run wc in --marks 5 --marks 6' 'run wc in --tentative maybe'; do
     begin "not understood: $words"
     printf "$counts" >in
     # shellcheck disable=SC2086
@@ -358,6 +359,131 @@ for splits in 2 4 8 16; do
     each="$each $((events / splits))"
 done
 set -- $each; same "events a split" "$1 $1 $1 $1" "$*"
+end
+
+# ---- snapshots
+
+# The snapshot of a mark and a reducer, by its lines behind the job: MARK REDUCER LINES
+snapped() {
+    holds "snap-$1-$2" "hop-snapshot 1 job wc mark $1 $3 "
+}
+
+begin 'a snapshot of no records'
+: >in
+run run wc in --marks 5000
+ended 0 '' 'done records=0 splits=0 parts=1 snapshots=1 attempts=0 pulled=0 settled=0' 'in part-0 snap-5000-0 trace '
+holds part-0 ''
+snapped 5000 0 'reducer 0 of 1 progress 10000 --'
+traces 0 1 'reducer 0 finish'
+end
+
+begin 'a snapshot of half the input'
+printf "$four" >in
+replayed 'm0 3\nr0 2\n' --marks 5000
+ended 0 '' 'done records=4 splits=2 parts=1 snapshots=1 attempts=2 pulled=0 settled=2' 'in part-0 snap-5000-0 spill-0 trace turns '
+snapped 5000 0 'reducer 0 of 1 progress 5000 split 0 attempt 0 records 2 of 2 tentative split 1 none -- a>1 b>1'
+holds part-0 'a>2 b>1 c>1 '
+end
+
+begin 'one arrival reaches several marks'
+printf "$four" >in
+replayed 'm0 3\nr0 2\n' --marks 1,2000,2500,2501,9999
+ended 0 '' 'done records=4 splits=2 parts=1 snapshots=5 attempts=2 pulled=0 settled=2' \
+    'in part-0 snap-1-0 snap-2000-0 snap-2500-0 snap-2501-0 snap-9999-0 spill-0 trace turns '
+quarter='reducer 0 of 1 progress 2500 split 0 attempt 0 records 1 of 2 tentative split 1 none -- a>1'
+snapped 1 0 "$quarter"
+snapped 2000 0 "$quarter"
+snapped 2500 0 "$quarter"
+snapped 2501 0 'reducer 0 of 1 progress 5000 split 0 attempt 0 records 2 of 2 tentative split 1 none -- a>1 b>1'
+snapped 9999 0 'reducer 0 of 1 progress 10000 split 0 attempt 0 records 2 of 2 committed split 1 attempt 0 records 2 of 2 tentative -- a>2 b>1 c>1'
+end
+
+retried='m0 2\nr0\nm0\nr0\nm0 3\nr0 2\nm0\nr0\nm0 3\nr0 2\nm0\nr0\n'
+begin 'a snapshot of an attempt that fails later'
+printf "$four" >in
+echo 'fail 0 0 1' >script
+replayed "$retried" --script script --marks 2500
+ended 0 '' 'done records=4 splits=2 parts=1 snapshots=1 attempts=3 pulled=0 settled=0' 'in part-0 script snap-2500-0 spill-0 trace turns '
+snapped 2500 0 'reducer 0 of 1 progress 2500 split 0 attempt 0 records 1 of 2 tentative split 1 none -- a>1'
+holds part-0 'a>2 b>1 c>1 '
+end
+
+begin 'the same of committed data alone'
+printf "$four" >in
+echo 'fail 0 0 1' >script
+replayed "$retried" --script script --marks 2500 --tentative no
+ended 0 '' 'done records=4 splits=2 parts=1 snapshots=1 attempts=3 pulled=0 settled=0' 'in part-0 script snap-2500-0 spill-0 trace turns '
+snapped 2500 0 'reducer 0 of 1 progress 5000 split 0 attempt 1 records 2 of 2 committed split 1 none -- a>1 b>1'
+end
+
+begin 'a restart falls below marks that were cut'
+printf 'a\nb\nc\n' >in
+echo 'restart 0 2' >script
+printf 'm0 3\nr0 2\nm0\nr0 2\n' >turns
+run replay wc in --split 3 --spill 1 --workers 1 --script script --turns turns --marks 3000,6000,9000
+ended 0 '' 'done records=3 splits=1 parts=1 snapshots=3 attempts=1 pulled=1 settled=0' 'in part-0 script snap-3000-0 snap-6000-0 snap-9000-0 spill-0 trace turns '
+snapped 3000 0 'reducer 0 of 1 progress 3333 split 0 attempt 0 records 1 of 3 tentative -- a>1'
+snapped 6000 0 'reducer 0 of 1 progress 6666 split 0 attempt 0 records 2 of 3 tentative -- a>1 b>1'
+snapped 9000 0 'reducer 0 of 1 progress 10000 split 0 attempt 0 records 3 of 3 committed -- a>1 b>1 c>1'
+end
+
+begin 'each reducer takes its own snapshots'
+printf 'a b\na a\nb c\nc c\n' >in
+run run wc in --reducers 2 --split 2 --workers 1 --marks 5000
+ended 0 '' 'done records=4 splits=2 parts=2 snapshots=2 attempts=2 pulled=0 settled=4' 'in part-0 part-1 snap-5000-0 snap-5000-1 spill-0 trace '
+snapped 5000 0 'reducer 0 of 2 progress 5000 split 0 attempt 0 records 2 of 2 tentative split 1 none -- b>1'
+snapped 5000 1 'reducer 1 of 2 progress 5000 split 0 attempt 0 records 2 of 2 tentative split 1 none -- a>3'
+end
+
+begin 'a snapshot stays where a split is spent later'
+printf "$four" >in
+echo 'fail 1 0 0' >script
+replayed 'm0 3\nr0 2\ns\n' --script script --attempts 1 --marks 5000,9000
+ended 5 'hop: split 1 has spent its attempts' '' 'in script snap-5000-0 spill-0 turns '
+snapped 5000 0 'reducer 0 of 1 progress 5000 split 0 attempt 0 records 2 of 2 tentative split 1 none -- a>1 b>1'
+end
+
+begin 'a directory where a snapshot goes'
+printf "$four" >in
+mkdir snap-5000-0
+replayed 'm0 3\nr0 2\n' --marks 2500,5000
+ended 6 'hop: the job folder failed' '' 'in snap-2500-0 snap-5000-0 spill-0 turns '
+end
+
+# Two workers draw a split each, and the reducer takes each message as it is sent: two ranges and a notice of each lane, in this order.
+met() {
+    turns='m0\nm1\n'
+    events=''
+    sent0=0
+    sent1=0
+    for w in $1; do
+        turns="${turns}m$w\\nr0\\n"
+        if [ "$w" = 0 ]; then sent=$sent0; sent0=$((sent0 + 1)); else sent=$sent1; sent1=$((sent1 + 1)); fi
+        if [ "$sent" -lt 2 ]; then
+            events="$events arrive $w 0 $sent $((sent + 1)) w$w"
+        else
+            events="$events won $w 0"
+        fi
+    done
+    printf "$turns" >turns
+    run replay wc in --split 2 --spill 1 --workers 2 --turns turns
+    same "status of$1" 0 "$status"
+    same "trace of$1" "hop-trace 1 job wc splits 2 reducers 1 begun 0 1 begun 1 1 reducer 0$events finish end " "$(tr '\n' ' ' <trace)"
+    orders=$((orders + 1))
+}
+
+# Each order of so many messages of worker 0 and of worker 1 behind these: LIST ZEROS ONES
+each_order() {
+    if [ "$2" -eq 0 ] && [ "$3" -eq 0 ]; then met "$1"; fi
+    if [ "$2" -gt 0 ]; then each_order "$1 0" $(($2 - 1)) "$3"; fi
+    if [ "$3" -gt 0 ]; then each_order "$1 1" "$2" $(($3 - 1)); fi
+}
+
+begin 'the messages of two lanes in every order'
+printf "$four" >in
+orders=0
+each_order '' 3 3
+same orders 20 "$orders"
 end
 
 begin 'the greatest number of splits, and one more'

@@ -50,9 +50,13 @@ fn sizes_shown(alloc: Global, options: &Options) -> Result<String, Fail> {
     let settings = &options.settings;
     let (split, spill, lane) = (settings.split, settings.spill, settings.lane);
     let (workers, attempts) = (settings.workers, settings.attempts);
+    let marks = settings.marks.as_slice();
+    let tentative = settings.tentative;
     let script = file_shown(&options.script);
     let turns = file_shown(&options.turns);
-    Ok(format!(in alloc; "{split} {spill} {workers} {attempts} {lane} {script} {turns}")?)
+    Ok(format!(in alloc;
+        "{split} {spill} {workers} {attempts} {lane} {marks:?} {tentative} {script} {turns}"
+    )?)
 }
 
 fn file_shown(name: &Option<Text>) -> &str {
@@ -107,17 +111,21 @@ fn reads_the_forms_of_block(rt: HostRuntime) -> Result<(), Fail> {
 #[test]
 fn reads_the_forms_of_runs(rt: HostRuntime) -> Result<(), Fail> {
     let alloc = rt.alloc();
-    let cases: [(&[&str], &str, &str); 5] = [
-        (&["run", "wc", "in"], "run wc in 1", "16384 1000 2 4 2 - -"),
+    let cases: [(&[&str], &str, &str); 6] = [
+        (
+            &["run", "wc", "in"],
+            "run wc in 1",
+            "16384 1000 2 4 2 [] true - -",
+        ),
         (
             &["run", "top", "in", "--k=3", "--reducers=8", "--script", "s"],
             "run top:3 in 8",
-            "16384 1000 2 4 2 s -",
+            "16384 1000 2 4 2 [] true s -",
         ),
         (
             &["run", "wc", "in", "--split=16777216", "--spill=65535"],
             "run wc in 1",
-            "16777216 65535 2 4 2 - -",
+            "16777216 65535 2 4 2 [] true - -",
         ),
         (
             &[
@@ -129,7 +137,7 @@ fn reads_the_forms_of_runs(rt: HostRuntime) -> Result<(), Fail> {
                 "--lane=64",
             ],
             "run wc in 1",
-            "16384 1000 8 16 64 - -",
+            "16384 1000 8 16 64 [] true - -",
         ),
         (
             &[
@@ -146,7 +154,19 @@ fn reads_the_forms_of_runs(rt: HostRuntime) -> Result<(), Fail> {
                 "--script=s",
             ],
             "replay sum in 1",
-            "1 1 1 1 1 s t",
+            "1 1 1 1 1 [] true s t",
+        ),
+        (
+            &[
+                "run",
+                "wc",
+                "in",
+                "--marks=1,00500,10000",
+                "--tentative",
+                "no",
+            ],
+            "run wc in 1",
+            "16384 1000 2 4 2 [1, 500, 10000] false - -",
         ),
     ];
     for (line, command, files) in cases {
@@ -171,7 +191,7 @@ fn refuses_what_is_no_command(rt: HostRuntime) -> Result<(), Fail> {
         &["run", "wc", "in", "--turns", "t"],
         &["replay", "wc", "in"],
         &["block", "wc", "in", "--script", "s"],
-        &["run", "wc", "in", "--marks", "5,5"],
+        &["block", "wc", "in", "--tentative", "no"],
         &["gen", "1", "1", "g"],
         &["block", "wc", "in", "--marks", "5"],
         &["block", "wc", "in", "-k", "3"],
@@ -194,13 +214,33 @@ fn refuses_what_is_no_command(rt: HostRuntime) -> Result<(), Fail> {
 #[test]
 fn refuses_what_is_no_value(rt: HostRuntime) -> Result<(), Fail> {
     let alloc = rt.alloc();
-    let cases: [&[&str]; 24] = [
+    let cases: [&[&str]; 38] = [
         &["run", "wc", "in", "--split", "0"],
         &["run", "wc", "in", "--split", "16777217"],
         &["run", "wc", "in", "--spill", "65536"],
         &["run", "wc", "in", "--workers", "9"],
         &["run", "wc", "in", "--attempts", "17"],
         &["run", "wc", "in", "--lane", "65"],
+        &["run", "wc", "in", "--marks", "5,5"],
+        &["run", "wc", "in", "--marks", "5,4"],
+        &["run", "wc", "in", "--marks", "0"],
+        &["run", "wc", "in", "--marks", "10001"],
+        &["run", "wc", "in", "--marks="],
+        &["run", "wc", "in", "--marks", "5,"],
+        &["run", "wc", "in", "--marks", "5,,6"],
+        &["run", "wc", "in", "--marks", "5, 6"],
+        &["run", "wc", "in", "--marks", "000000000000000000005"],
+        &[
+            "run",
+            "wc",
+            "in",
+            "--marks",
+            "1,2,3,4,5,6,7,8,9,10,11,12,13,14,15,16,17",
+        ],
+        &["run", "wc", "in", "--marks", "5", "--marks", "6"],
+        &["run", "wc", "in", "--tentative", "Yes"],
+        &["run", "wc", "in", "--tentative="],
+        &["run", "wc", "in", "--tentative=no", "--tentative=no"],
         &["run", "wc", "in", "--script", ".s"],
         &["run", "wc", "in", "--script=s", "--script=s"],
         &["replay", "wc", "in", "--turns", ""],
