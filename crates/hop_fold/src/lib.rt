@@ -6,4 +6,4 @@ mod gathered;
 mod lines;
 mod lists;
 
-pub use blocking::{block, block_lines};
+pub use blocking::{block, block_lines, block_short_lines};
