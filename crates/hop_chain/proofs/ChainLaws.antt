@@ -1,9 +1,17 @@
--- One job more of a chain.
-use Rattle.std.proofs.Common.{◌≡◌, ℕ, suc, ◌+◌, ◌-◌, ◌<◌, List, [], ◌∷◌, ◌++◌, length, map, drop, get_or, sym, ap, ◌∙◌, arith, append_assoc, length-append}
+-- One job more of a chain, and the first.
+use Rattle.std.proofs.Common.{◌≡◌, ℕ, suc, ◌+◌, ◌-◌, ◌<◌, ◌≤◌, true, List, [], ◌∷◌, ◌++◌, length, map, drop, get_or, refl, sym, ap, ◌∙◌, arith, append_assoc, length-append, leb-true}
+use Rattle.std.specs.Prelude.{All}
+use Rattle.std.specs.List.{concat}
+use Rattle.std.proofs.lemmas.List.Elements.{All-weaker, filter_passes}
 use Rattle.std.proofs.Math.Seq.{drop-cons, get_or-append_seam}
+use Rattle.hop_base.specs.Meaning.{Meaning}
+use Rattle.hop_fold.specs.Within.{is_within, records_within}
+use Rattle.hop_fold.proofs.WithinLaws.{none_is_long}
+use Rattle.hop_laws.specs.Blocking.{blocking_texts}
+use Rattle.hop_records.specs.Records.{records_of}
 use Rattle.hop_jobs.specs.Known.{known_meaning}
 use Rattle.hop_jobs.specs.declared.known.Known.{Known}
-use Rattle.hop_chain.specs.Chain.{last_texts, later_texts, next_texts}
+use Rattle.hop_chain.specs.Chain.{HasShortRecords, chained_texts, last_texts, later_texts, next_texts}
 
 -- the texts so far, and those of the jobs that are left
 pub one_later : (jobs : List Known) (i r : ℕ) (job : Known) (before : List (List ℕ)) (all : List (List (List ℕ))) → i < length jobs → get_or jobs i job ≡ job
@@ -22,3 +30,14 @@ last_more texts next all =
     let long : length (all ++ next ∷ []) ≡ length all + 1 = length-append all (next ∷ []) in
     let last : length (all ++ next ∷ []) - 1 ≡ length all = omega (arith, long) in
     ap (λ n. get_or (all ++ next ∷ []) n texts) last ∙ get_or-append_seam all next [] texts
+
+-- what the first job leaves out
+pub first_records : (texts : List (List ℕ)) → All (λ line. length line ≤ 65556) (records_within 65556 texts)
+first_records texts =
+    All-weaker (λ line. is_within 65556 line ≡ true) (λ line. length line ≤ 65556) (λ line is. leb-true (length line) 65556 is) (records_within 65556 texts) (filter_passes (is_within 65556) (records_of (concat texts)))
+
+-- it leaves nothing out where no record is long
+pub nothing_left_out : (texts : List (List ℕ)) (meanings : List Meaning) (r : ℕ) → HasShortRecords 65556 texts → chained_texts meanings texts r ≡ later_texts meanings texts r
+nothing_left_out texts [] r h = refl
+nothing_left_out texts (meaning ∷ meanings) r h =
+    ap (λ records. blocking_texts meaning records r ∷ later_texts meanings (blocking_texts meaning records r) r) (none_is_long 65556 (records_of (concat texts)) h)

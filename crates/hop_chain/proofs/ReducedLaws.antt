@@ -1,7 +1,7 @@
 -- What a job writes over short records has lines that are little longer.
 use Rattle.std.proofs.Common.{ℕ, ◌+◌, ◌≤◌, Bool, true, false, cond, List, [], ◌∷◌, length, map, arith}
 use Rattle.std.specs.Prelude.{All, ◌==◌, filter}
-use Rattle.std.specs.List.{AllByRecursion, concat, flat_map, range_with_len}
+use Rattle.std.specs.List.{AllByRecursion, flat_map, range_with_len}
 use Rattle.std.specs.Ordering.{is_gt}
 use Rattle.std.specs.Str.{bytes_eq}
 use Rattle.std.proofs.lemmas.List.Elements.{All-append, All-filter, All-from_recursion, All-head, All-map, All-nil, All-tail, All-weaker, recursion_from_All}
@@ -10,14 +10,13 @@ use Rattle.hop_base.specs.Order.{IsValidPair, key_cmp, val_cmp}
 use Rattle.hop_base.specs.Sorted.{ord}
 use Rattle.hop_base.specs.declared.value.Pair.{Pair}
 use Rattle.hop_base.specs.declared.value.Val.{Val}
-use Rattle.hop_laws.specs.Blocking.{blocking, emitted}
+use Rattle.hop_laws.specs.Blocking.{blocking, blocking_texts, emitted}
 use Rattle.hop_laws.specs.Groups.{add_key, keys_of, red, values_of}
 use Rattle.hop_laws.specs.Laws.{IsLawful}
 use Rattle.hop_laws.specs.Partition.{partition_of}
 use Rattle.hop_laws.proofs.Emitted.{valid_emitted}
 use Rattle.hop_laws.proofs.StandsLaws.{valid_values}
-use Rattle.hop_records.specs.Records.{records_of}
-use Rattle.hop_chain.specs.Chain.{HasShortLines, HasShortRecords, next_texts}
+use Rattle.hop_chain.specs.Chain.{HasShortLines, HasShortRecords}
 use Rattle.hop_chain.proofs.RecordLaws.{lines_each, lines_of_whole, records_joined}
 
 -- neither the key nor the text of the value is longer
@@ -84,7 +83,7 @@ module _ (meaning : Meaning) (laws : IsLawful meaning) (n : ℕ) where
     all_lines records h r (p ∷ ps) = (text_lines records h p r, all_lines records h r ps)
 
     -- its texts, as the next job reads them
-    pub next_short : (texts : List (List ℕ)) → HasShortRecords n texts → (r : ℕ) → HasShortRecords (n + 21) (next_texts meaning texts r)
-    next_short texts h r =
-        records_joined (n + 21) (next_texts meaning texts r)
-        (All-from_recursion (HasShortLines (n + 21)) (next_texts meaning texts r) (all_lines (records_of (concat texts)) h r (range_with_len 0 r)))
+    pub texts_short : (records : List (List ℕ)) → All (λ line. length line ≤ n) records → (r : ℕ) → HasShortRecords (n + 21) (blocking_texts meaning records r)
+    texts_short records h r =
+        records_joined (n + 21) (blocking_texts meaning records r)
+        (All-from_recursion (HasShortLines (n + 21)) (blocking_texts meaning records r) (all_lines records h r (range_with_len 0 r)))

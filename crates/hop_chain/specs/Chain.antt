@@ -2,6 +2,7 @@
 use Rattle.std.specs.Prelude.{◌≡◌, ℕ, ◌≤◌, ◌-◌, List, [], ◌∷◌, length, All, slice_index_or}
 use Rattle.std.specs.List.{concat}
 use Rattle.hop_base.specs.Meaning.{Meaning}
+use Rattle.hop_fold.specs.Within.{records_within}
 use Rattle.hop_laws.specs.Blocking.{blocking, blocking_texts}
 use Rattle.hop_laws.specs.Laws.{EndsLine}
 use Rattle.hop_records.specs.Records.{IsShort, records_of}
@@ -14,6 +15,15 @@ next_texts meaning texts r = blocking_texts meaning (records_of (concat texts)) 
 abbrev pub later_texts : List Meaning → List (List ℕ) → ℕ → List (List (List ℕ))
 later_texts [] texts r = []
 later_texts (meaning ∷ meanings) texts r = next_texts meaning texts r ∷ later_texts meanings (next_texts meaning texts r) r
+
+-- the job over those records of the texts that have at most 65,556 bytes; longer ones are left out
+abbrev pub chained_first : Meaning → List (List ℕ) → ℕ → List (List ℕ)
+chained_first meaning texts r = blocking_texts meaning (records_within 65556 texts) r
+
+-- the same, where the first job leaves out the long records of these texts
+abbrev pub chained_texts : List Meaning → List (List ℕ) → ℕ → List (List (List ℕ))
+chained_texts [] texts r = []
+chained_texts (meaning ∷ meanings) texts r = chained_first meaning texts r ∷ later_texts meanings (chained_first meaning texts r) r
 
 -- the texts of the last job, or these where there is none
 abbrev pub last_texts : List (List ℕ) → List (List (List ℕ)) → List (List ℕ)
