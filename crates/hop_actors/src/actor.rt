@@ -35,5 +35,5 @@ pub trait Actor<N: RunName, E: Reach<N>> {
         ensures turned { Turned E.exact (acting self.old) (E.deeds reach.old) (acting self.new) (said_turn result) (E.deeds reach.new) }
         ensures well { has_failed (said_turn result) ≡ false → failed self.new ≡ false }
         ensures fits { fits self.new (E.deeds reach.new).ends.board }
-        ensures cause { TurnCause (acting self.old) (counts self.old) (counts self.new) result };
+        ensures cause { TurnCause N.job N.records N.script N.settings (acting self.old) (counts self.old) (counts self.new) result };
 }

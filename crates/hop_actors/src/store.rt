@@ -49,7 +49,7 @@ pub trait Store<N: RunName, E: Reach<N>>: Actor<N, E> {
         ensures fits { (board : List ℕ) → Self.fits self.old board → Self.fits self.new board }
         ensures stands { IfOk result (λ sheets. IsTrue N.tells → TogetherStand N.job.reduced sheets (pairs_of N.job N.records N.settings p part)) }
         ensures answered { OnOk result (Self.counts self.new ≡ Self.counts self.old) }
-        ensures cause { IfErr result (StoreCause (mapper self.old).number (Self.counts self.old) (Self.counts self.new)) }
+        ensures cause { IfErr result (StoreCause N.job N.records N.script N.settings (mapper self.old).number (Self.counts self.old) (Self.counts self.new)) }
         ensures stops { IfErr result (λ fault. said_fault fault ≡ said.Stopped) };
 
     ghost is_mapper: { (s : Self) → Self.acting s ≡ Maps (mapper s) };

@@ -1,5 +1,7 @@
 //! What a reducer's turn did.
-ghost use Rattle.std.specs.Prelude.{◌≡◌};
+ghost use Rattle.std.specs.Prelude.{◌≡◌, ℕ, List};
+ghost use Rattle.hop_base.specs.Meaning.{Meaning};
+ghost use Rattle.hop_base.specs.Run.{ScriptLines, RunSettings};
 ghost use Rattle.hop_actors.specs.Acting.{said_turn, Reduces};
 ghost use Rattle.hop_actors.specs.Counting.{TurnCause, no_folder};
 ghost use Rattle.hop_machine.specs.actors.ReducerTurns.{Reducer};
@@ -19,7 +21,7 @@ impl Answer {
     // The turn that it is.
     pub(crate) fn turn(self) -> Turn
         ensures said { said_turn result ≡ said_answer self }
-        ensures cause { (r : Reducer) → TurnCause (Reduces r) no_folder no_folder result }
+        ensures cause { (job : Meaning) (lines : List (List ℕ)) (script : ScriptLines) (settings : RunSettings) (r : Reducer) → TurnCause job lines script settings (Reduces r) no_folder no_folder result }
     {
         match self {
             Answer::Worked => Turn::Worked,

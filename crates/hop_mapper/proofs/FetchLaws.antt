@@ -8,7 +8,7 @@ use Rattle.hop_base.specs.Files.{Files}
 use Rattle.hop_base.specs.declared.part.Part.{Part}
 use Rattle.hop_base.specs.declared.value.Pair.{Pair}
 use Rattle.hop_base.specs.Meaning.{Meaning}
-use Rattle.hop_base.specs.Run.{RunSettings}
+use Rattle.hop_base.specs.Run.{ScriptLines, RunSettings}
 use Rattle.hop_records.specs.Records.{lens_of}
 use Rattle.hop_shelf.specs.Names.{book_of}
 use Rattle.hop_vault.specs.declared.kept.Kept.{Kept}
@@ -20,7 +20,7 @@ use Rattle.hop_laws.proofs.StandsLaws.{stands_sorted, stands_through}
 use Rattle.hop_ports.specs.Views.{FolderView}
 use Rattle.hop_ports.specs.Causes.{OnlyRead}
 use Rattle.hop_run.proofs.MergeLaws.{ord_permutes}
-use Rattle.hop_shelf.specs.Names.{pairs_of, IsRun}
+use Rattle.hop_shelf.specs.Names.{pairs_of, rules_of, IsRun}
 use Rattle.hop_vault.specs.declared.kept.FetchFault.{FetchFault}
 use Rattle.hop_vault.specs.declared.kept.FetchFault.TheVariants as fetch
 use Rattle.hop_vault.specs.Reads.{GetsAnswered}
@@ -32,7 +32,9 @@ use Rattle.hop_actors.specs.Counting.{StoreCause}
 use Rattle.hop_actors.specs.Spilled.{TogetherStand}
 use Rattle.hop_mapper.specs.Mappers.{counts_of}
 use Rattle.hop_mapper.specs.Faults.{fetch_fault}
+use Rattle.hop_mapper.specs.Next.{KeepsWithin}
 use Rattle.hop_mapper.proofs.FaultLaws.{counts_same}
+use Rattle.hop_mapper.proofs.NamedLaws.{damaged_named, collides_named}
 use Rattle.std.proofs.lemmas.List.Sorted.{IsPermutation-sym}
 
 -- a multiple that is above another one is at least one more
@@ -142,10 +144,14 @@ fetched_stands job records settings run held rows part p sheets below keeps whol
     stands_through job.reduced (pairs_in sheets) (ord pair_cmp (pairs_in sheets)) (pairs_of job records settings p part) (stands_sorted job.reduced (ord pair_cmp (pairs_in sheets)) (pairs_in sheets) (IsPermutation-sym (pairs_in sheets) (ord pair_cmp (pairs_in sheets)) (ord_permutes (pairs_in sheets)))) s
 
 module _ {V : Type 0} (seen : V → FolderView) (a b : VaultValue V) (read : OnlyRead (seen a.folder) (seen b.folder)) (part : Part) (whole : IsWhole a.rows part) where
-  -- why it can't be
-  pub fetch_cause : (w p : ℕ) (f : FetchFault) → GetsAnswered (seen a.folder) (seen b.folder) f → FetchCause seen a b part p f → StoreCause w (counts_of seen a) (counts_of seen b) (fetch_fault w f)
-  fetch_cause w p (fetch.NotKept have) answered cause = absurd (cause.2 whole.spills whole.stretch)
-  fetch_cause w p fetch.StoreFailed answered cause = (refl, inr (record { tells = ap is_some read.held; gets = cause; puts = read.puts }))
-  fetch_cause w p (fetch.Damaged at kept found) answered cause = (refl, ap is_some cause.untold, cause.differs, counts_same seen a b read answered)
-  fetch_cause w p (fetch.Collides at place) answered cause = (refl, ap is_some cause.untold, counts_same seen a b read answered)
-  fetch_cause w p fetch.NoMemory answered cause = counts_same seen a b read answered
+  module _ (job : Meaning) (records : List (List ℕ)) (script : ScriptLines) (settings : RunSettings) (some_spill : 1 ≤ settings.spill)
+      (keeps : KeepsMade job records settings (seen a.folder).held a.rows) (ends : KeepsWithin (rules_of records script settings) a.rows) where
+    -- why it can't be
+    pub fetch_cause : (w p : ℕ) (f : FetchFault) → GetsAnswered (seen a.folder) (seen b.folder) f → FetchCause seen a b part p f → StoreCause job records script settings w (counts_of seen a) (counts_of seen b) (fetch_fault w f)
+    fetch_cause w p (fetch.NotKept have) answered cause = absurd (cause.2 whole.spills whole.stretch)
+    fetch_cause w p fetch.StoreFailed answered cause = (refl, inr (record { tells = ap is_some read.held; gets = cause; puts = read.puts }))
+    fetch_cause w p (fetch.Damaged at kept found) answered cause =
+        (refl, ap is_some cause.untold, cause.differs, counts_same seen a b read answered, damaged_named job records script settings (seen a.folder).held a.rows some_spill keeps ends part at kept found cause)
+    fetch_cause w p (fetch.Collides at place) answered cause =
+        (refl, ap is_some cause.untold, counts_same seen a b read answered, collides_named job records script settings (seen a.folder).held a.rows some_spill keeps ends part p at place cause)
+    fetch_cause w p fetch.NoMemory answered cause = counts_same seen a b read answered

@@ -9,6 +9,7 @@ pub mod Fitting
 pub mod Offering
 pub mod OnlySpilled
 pub mod SpilledLaws
+pub mod NamedLaws
 pub mod FaultLaws
 pub mod Starting
 pub mod Working

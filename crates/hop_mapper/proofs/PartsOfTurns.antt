@@ -1,6 +1,7 @@
 -- Parts of a mapper's turn run, by what their calls ran.
 use Rattle.std.proofs.Common.{◌≡◌, ℕ, ◌+◌, Bool, true, false, List, refl, sym, ap, ◌∙◌, subst, if◌then◌else◌}
 use Rattle.std.specs.Prelude.{Result, Ok, Err, nat_lt}
+use Rattle.hop_base.specs.Meaning.{Meaning}
 use Rattle.hop_base.specs.Run.{delay_of}
 use Rattle.hop_base.specs.Run.{ScriptLines, RunSettings}
 use Rattle.hop_vault.specs.declared.kept.Kept.{Kept}
@@ -221,6 +222,6 @@ module _ (records : List (List ℕ)) (script : ScriptLines) (settings : RunSetti
       (false, a, risk_steps e false a, ((λ k. (is k, Stopped)), refl))
 
 -- it fails for want of memory alone
-pub either_cause : {A E : Type 0} (r : Result A E) (m : Mapper) (a b : Counts) → b ≡ a → TurnCause (Maps m) a b (turn_of r)
-either_cause (Ok u) m a b e = e
-either_cause (Err x) m a b e = e
+pub either_cause : {A E : Type 0} (job : Meaning) (records : List (List ℕ)) (script : ScriptLines) (settings : RunSettings) (r : Result A E) (m : Mapper) (a b : Counts) → b ≡ a → TurnCause job records script settings (Maps m) a b (turn_of r)
+either_cause job records script settings (Ok u) m a b e = e
+either_cause job records script settings (Err x) m a b e = e

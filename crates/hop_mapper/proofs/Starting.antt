@@ -6,6 +6,7 @@ use Rattle.std.proofs.lemmas.List.Elements.{All-nil}
 use Rattle.hop_base.specs.Files.{Files}
 use Rattle.hop_base.specs.Meaning.{Meaning}
 use Rattle.hop_base.specs.Run.{ScriptLines, RunSettings}
+use Rattle.hop_event.specs.Legal.{Rules}
 use Rattle.hop_records.specs.Records.{lens_of}
 use Rattle.hop_shelf.specs.Names.{book_of, rules_of}
 use Rattle.hop_vault.specs.declared.kept.Kept.{Kept}
@@ -18,6 +19,7 @@ use Rattle.hop_press.specs.Held.{LaneValue, no_lane, lane_at, said_lanes, AreRea
 use Rattle.hop_actors.specs.Spilled.{IsSpilled}
 use Rattle.hop_mapper.specs.declared.work.Work.TheVariants as work
 use Rattle.hop_mapper.specs.Mappers.{MapperValue, mapper_of, FitsBoard}
+use Rattle.hop_mapper.specs.Next.{KeepsWithin}
 
 module _ (K : Type 0) where
   held_none : (n : ℕ) → said_lanes (replicate n (no_lane {K = K})) ≡ nothing_held n
@@ -57,6 +59,10 @@ module _ (records : List (List ℕ)) (script : ScriptLines) (settings : RunSetti
       let b : ◌≡◌ {A = ℕ → ℕ} (λ i. slice_index begun i) (λ i. 0) = fun_ext (λ i. ap (λ xs. slice_index xs i) counts ∙ zeros n i) in
       let k : ◌≡◌ {A = ℕ → ℕ → ℕ} (λ i a. kept_end vault.rows i a) (λ i a. 0) = fun_ext (λ i. fun_ext (λ a. ap (λ t. kept_end t i a) rows ∙ end_none i a)) in
       λ j. record (new_mapper vault.worker (rules_of records script settings) settings.backup settings.reducers) { held = h j; begun = b j; kept = k j }
+
+-- of no attempt anything is kept
+pub within_none : (rules : Rules) (rows : Table) → rows ≡ [] → KeepsWithin rules rows
+within_none rules rows is = λ i a lt. let e : kept_end rows i a ≡ 0 = ap (λ t. kept_end t i a) is ∙ end_none i a in absurd (omega arith)
 
 module _ (job : Meaning) (records : List (List ℕ)) (settings : RunSettings) where
   keeps_empty : (held : Option Files) → KeepsMade job records settings held []

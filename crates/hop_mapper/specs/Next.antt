@@ -4,6 +4,7 @@ use Rattle.hop_base.specs.declared.part.Part.{Part}
 use Rattle.hop_base.specs.Files.{Files}
 use Rattle.hop_base.specs.Meaning.{Meaning}
 use Rattle.hop_base.specs.Run.{RunSettings}
+use Rattle.hop_event.specs.Legal.{Rules}
 use Rattle.hop_ports.specs.Views.{with_file}
 use Rattle.hop_records.specs.Records.{lens_of}
 use Rattle.hop_shelf.specs.Names.{book_of}
@@ -14,6 +15,7 @@ use Rattle.hop_vault.specs.Rows.{Table, kept_end, AddsTo}
 use Rattle.hop_vault.specs.Vaults.{IsKept}
 use Rattle.hop_press.specs.Fits.{KeepsMade}
 use Rattle.hop_machine.specs.actors.MapperTurns.{Running, Work, Runs, Retries, Free}
+use Rattle.hop_machine.specs.step.Pushing.{kept_end as last_end}
 
 -- how many records a split of the run has
 abbrev pub split_len : List (List ℕ) → RunSettings → ℕ → ℕ
@@ -51,6 +53,16 @@ pub record IsNext (records : List (List ℕ)) (settings : RunSettings) (rows : T
   pub begins : part.from % settings.spill ≡ 0
   pub some : part.from < part.to
   pub to : part.to ≡ min (part.from + settings.spill) (split_len records settings part.split)
+
+-- the attempt is one of the run's, and may end there: the script lets it come so far
+pub record EndsWithin (rules : Rules) (i a last : ℕ) : Type 0 where
+  pub split : i < length rules.lens
+  pub attempt : a < rules.attempts
+  pub end : last ≤ last_end rules i a
+
+-- so of each attempt of which spills are kept
+abbrev pub KeepsWithin : Rules → Table → Type 0
+KeepsWithin rules rows = (i a : ℕ) → 0 < kept_end rows i a → EndsWithin rules i a (kept_end rows i a)
 
 module _ (job : Meaning) (records : List (List ℕ)) (settings : RunSettings) where
   -- the vault kept the spill of this range, which was the next one, and its file was put

@@ -6,12 +6,13 @@ use Rattle.hop_base.specs.Meaning.{Meaning}
 use Rattle.hop_base.specs.Run.{ScriptLines, RunSettings}
 use Rattle.hop_ports.specs.Views.{FolderView}
 use Rattle.hop_records.specs.Records.{BookValue, lens_of}
-use Rattle.hop_shelf.specs.Names.{book_of, IsRun}
+use Rattle.hop_shelf.specs.Names.{book_of, rules_of, IsRun}
 use Rattle.hop_vault.specs.Rows.{Table, kept_end}
 use Rattle.hop_press.specs.Fits.{KeepsMade}
 use Rattle.hop_press.specs.Held.{LaneValue, AreReady}
 use Rattle.hop_actors.specs.Spilled.{IsSpilled, OnlySpills}
 use Rattle.hop_mapper.specs.Mappers.{MapperValue, settings_of}
+use Rattle.hop_mapper.specs.Next.{KeepsWithin}
 
 -- what a mapper borrows is of the run
 pub record IsOfRun (job : Meaning) (records : List (List ℕ)) (script : ScriptLines) (settings : RunSettings) (own_job : Meaning) (book : BookValue) (own_script : ScriptLines) (own : Settings) : Type 0 where
@@ -21,12 +22,13 @@ pub record IsOfRun (job : Meaning) (records : List (List ℕ)) (script : ScriptL
   pub script_is : own_script ≡ script
   pub settings_are : settings_of own ≡ settings
 
--- A mapper's vault keeps the spills that the run makes alone. It holds messages for each reducer, and counts the
+-- A mapper's vault keeps the spills that the run makes alone, of each attempt no more than the script lets it make. It holds messages for each reducer, and counts the
 -- attempts of each split. Unless a turn failed, each lane that holds something has a ready message.
 pub record IsSound (job : Meaning) (records : List (List ℕ)) (script : ScriptLines) (settings : RunSettings) (tells : Bool) (own_job : Meaning) (book : BookValue) (own_script : ScriptLines) (own : Settings)
     (seen : FolderView) (rows : Table) {K : Type 0} (held : List (LaneValue K)) (begun : List ℕ) (failed : Bool) : Type 0 where
   pub of_run : IsOfRun job records script settings own_job book own_script own
   pub keeps : KeepsMade job records settings seen.held rows
+  pub ends : KeepsWithin (rules_of records script settings) rows
   pub told : IsTrue tells → IsSome seen.held
   pub lanes : length held ≡ settings.reducers
   pub counts : length begun ≡ length (lens_of (book_of records settings))

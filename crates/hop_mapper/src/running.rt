@@ -78,7 +78,7 @@ impl<'a, N: RunName, V: Folder, J: Job, G: Gate, K: Knowing> State<'a, N, V, J, 
         requires safe { Safe parts E.exact (unless_spent (mapper_of N.records N.script N.settings self.now) split mask) (E.deeds reach.old) }
         ensures runs { Runs E.exact (unless_spent (mapper_of N.records N.script N.settings self.now) split mask) (E.deeds reach.old) (mapper_of N.records N.script N.settings self.now, said_turn result) (E.deeds reach.new) }
         ensures ends { (E.deeds reach.new).ends ≡ (E.deeds reach.old).ends }
-        ensures cause { TurnCause (Maps (mapper_of N.records N.script N.settings self.now)) (counts_of V.seen self.now.vault) (counts_of V.seen self.now.vault) result }
+        ensures cause { TurnCause N.job N.records N.script N.settings (Maps (mapper_of N.records N.script N.settings self.now)) (counts_of V.seen self.now.vault) (counts_of V.seen self.now.vault) result }
     {
         if !is_full(self.limit(), mask) {
             return Turn::Worked;
@@ -140,7 +140,7 @@ impl<'a, N: RunName, V: Folder, J: Job, G: Gate, K: Knowing> State<'a, N, V, J, 
         ensures vault { self.new.vault ≡ self.old.vault }
         ensures well { self.new.failed ≡ false }
         ensures fits { FitsBoard N.job N.records N.settings N.tells K.knows K.board self.new (E.deeds reach.new) }
-        ensures cause { TurnCause (Maps (mapper_of N.records N.script N.settings self.old)) (counts_of V.seen self.old.vault) (counts_of V.seen self.new.vault) result }
+        ensures cause { TurnCause N.job N.records N.script N.settings (Maps (mapper_of N.records N.script N.settings self.old)) (counts_of V.seen self.old.vault) (counts_of V.seen self.new.vault) result }
     {
         let mask = revoke_on::<N, E>(reach, self.worker(), run.split, run.attempt);
         self.set_work(Work::Retries { split: run.split });
@@ -159,7 +159,7 @@ impl<'a, N: RunName, V: Folder, J: Job, G: Gate, K: Knowing> State<'a, N, V, J, 
         ensures vault { self.new.vault ≡ self.old.vault }
         ensures well { self.new.failed ≡ false }
         ensures fits { FitsBoard N.job N.records N.settings N.tells K.knows K.board self.new (E.deeds reach.new) }
-        ensures cause { TurnCause (Maps (mapper_of N.records N.script N.settings self.old)) (counts_of V.seen self.old.vault) (counts_of V.seen self.new.vault) result }
+        ensures cause { TurnCause N.job N.records N.script N.settings (Maps (mapper_of N.records N.script N.settings self.old)) (counts_of V.seen self.old.vault) (counts_of V.seen self.new.vault) result }
     {
         commit_or_revoke::<N, E>(reach, self.worker(), run);
         self.set_work(Work::Free);
@@ -175,7 +175,7 @@ impl<'a, N: RunName, V: Folder, J: Job, G: Gate, K: Knowing> State<'a, N, V, J, 
         ensures runs { Runs E.exact (runs_on (mapper_of N.records N.script N.settings self.old) (running_of run)) (E.deeds reach.old) (mapper_of N.records N.script N.settings self.new, said_turn result) (E.deeds reach.new) }
         ensures well { self.new.failed ≡ false }
         ensures fits { FitsBoard N.job N.records N.settings N.tells K.knows K.board self.new (E.deeds reach.new) }
-        ensures cause { TurnCause (Maps (mapper_of N.records N.script N.settings self.old)) (counts_of V.seen self.old.vault) (counts_of V.seen self.new.vault) result }
+        ensures cause { TurnCause N.job N.records N.script N.settings (Maps (mapper_of N.records N.script N.settings self.old)) (counts_of V.seen self.old.vault) (counts_of V.seen self.new.vault) result }
         ensures adds { has_failed (said_turn result) ≡ false → AddsAtMost N.job N.records N.settings (V.seen self.old.vault.folder).held (V.seen self.new.vault.folder).held self.old.vault.rows self.new.vault.rows }
         ensures only { OnlySpills (V.seen self.old.vault.folder).held (V.seen self.new.vault.folder).held }
         ensures worker { self.new.vault.worker ≡ self.old.vault.worker }

@@ -191,7 +191,7 @@ impl<'a, N: RunName, V: Folder, J: Job, G: Gate, K: Knowing> State<'a, N, V, J, 
         ensures files { (V.seen self.new.vault.folder).held ≡ (V.seen self.old.vault.folder).held }
         ensures stands { IfOk result (λ sheets. IsTrue N.tells → TogetherStand N.job.reduced sheets (pairs_of N.job N.records N.settings p part)) }
         ensures answered { OnOk result (counts_of V.seen self.new.vault ≡ counts_of V.seen self.old.vault) }
-        ensures cause { IfErr result (StoreCause self.old.vault.worker (counts_of V.seen self.old.vault) (counts_of V.seen self.new.vault)) }
+        ensures cause { IfErr result (StoreCause N.job N.records N.script N.settings self.old.vault.worker (counts_of V.seen self.old.vault) (counts_of V.seen self.new.vault)) }
         ensures stops { IfErr result (λ fault. said_fault fault ≡ said.Stopped) }
     {
         let worker = self.vault.worker();

@@ -36,7 +36,7 @@ impl<'a, N: RunName, V: Folder, J: Job, G: Gate, K: Knowing> State<'a, N, V, J, 
         ensures runs { Runs E.exact (acts (mapper_of N.records N.script N.settings self.old) (work_of self.old.work)) (E.deeds reach.old) (mapper_of N.records N.script N.settings self.new, said_turn result) (E.deeds reach.new) }
         ensures well { self.new.failed ≡ false }
         ensures fits { FitsBoard N.job N.records N.settings N.tells K.knows K.board self.new (E.deeds reach.new) }
-        ensures cause { TurnCause (Maps (mapper_of N.records N.script N.settings self.old)) (counts_of V.seen self.old.vault) (counts_of V.seen self.new.vault) result }
+        ensures cause { TurnCause N.job N.records N.script N.settings (Maps (mapper_of N.records N.script N.settings self.old)) (counts_of V.seen self.old.vault) (counts_of V.seen self.new.vault) result }
         ensures adds { has_failed (said_turn result) ≡ false → AddsAtMost N.job N.records N.settings (V.seen self.old.vault.folder).held (V.seen self.new.vault.folder).held self.old.vault.rows self.new.vault.rows }
         ensures only { OnlySpills (V.seen self.old.vault.folder).held (V.seen self.new.vault.folder).held }
         ensures worker { self.new.vault.worker ≡ self.old.vault.worker }
@@ -61,7 +61,7 @@ impl<'a, N: RunName, V: Folder, J: Job, G: Gate, K: Knowing> State<'a, N, V, J, 
         ensures well { OnOk result (self.new.failed ≡ false) }
         ensures fits { FitsBoard N.job N.records N.settings N.tells K.knows K.board self.new (E.deeds reach.new) }
         ensures answered { OnOk result (counts_of V.seen self.new.vault ≡ counts_of V.seen self.old.vault) }
-        ensures cause { IfErr result (λ fault. StoreCause self.old.vault.worker (counts_of V.seen self.old.vault) (counts_of V.seen self.new.vault) (flush_fault self.old.vault.worker fault)) }
+        ensures cause { IfErr result (λ fault. StoreCause N.job N.records N.script N.settings self.old.vault.worker (counts_of V.seen self.old.vault) (counts_of V.seen self.new.vault) (flush_fault self.old.vault.worker fault)) }
     {
         let worker = self.vault.worker();
         match self
@@ -85,7 +85,7 @@ impl<'a, N: RunName, V: Folder, J: Job, G: Gate, K: Knowing> State<'a, N, V, J, 
         ensures runs { Runs E.exact (takes_turn (mapper_of N.records N.script N.settings self.old)) (E.deeds reach.old) (mapper_of N.records N.script N.settings self.new, said_turn result) (E.deeds reach.new) }
         ensures well { has_failed (said_turn result) ≡ false → self.new.failed ≡ false }
         ensures fits { FitsBoard N.job N.records N.settings N.tells K.knows K.board self.new (E.deeds reach.new) }
-        ensures cause { TurnCause (Maps (mapper_of N.records N.script N.settings self.old)) (counts_of V.seen self.old.vault) (counts_of V.seen self.new.vault) result }
+        ensures cause { TurnCause N.job N.records N.script N.settings (Maps (mapper_of N.records N.script N.settings self.old)) (counts_of V.seen self.old.vault) (counts_of V.seen self.new.vault) result }
         ensures adds { has_failed (said_turn result) ≡ false → AddsAtMost N.job N.records N.settings (V.seen self.old.vault.folder).held (V.seen self.new.vault.folder).held self.old.vault.rows self.new.vault.rows }
         ensures only { OnlySpills (V.seen self.old.vault.folder).held (V.seen self.new.vault.folder).held }
         ensures worker { self.new.vault.worker ≡ self.old.vault.worker }
@@ -107,7 +107,7 @@ impl<'a, N: RunName, V: Folder, J: Job, G: Gate, K: Knowing> State<'a, N, V, J, 
         ensures runs { Runs E.exact (open_turn (mapper_of N.records N.script N.settings self.old)) (E.deeds reach.old) (mapper_of N.records N.script N.settings self.new, said_turn result) (E.deeds reach.new) }
         ensures well { has_failed (said_turn result) ≡ false → self.new.failed ≡ false }
         ensures fits { FitsBoard N.job N.records N.settings N.tells K.knows K.board self.new (E.deeds reach.new) }
-        ensures cause { TurnCause (Maps (mapper_of N.records N.script N.settings self.old)) (counts_of V.seen self.old.vault) (counts_of V.seen self.new.vault) result }
+        ensures cause { TurnCause N.job N.records N.script N.settings (Maps (mapper_of N.records N.script N.settings self.old)) (counts_of V.seen self.old.vault) (counts_of V.seen self.new.vault) result }
         ensures adds { has_failed (said_turn result) ≡ false → AddsAtMost N.job N.records N.settings (V.seen self.old.vault.folder).held (V.seen self.new.vault.folder).held self.old.vault.rows self.new.vault.rows }
         ensures only { OnlySpills (V.seen self.old.vault.folder).held (V.seen self.new.vault.folder).held }
         ensures worker { self.new.vault.worker ≡ self.old.vault.worker }
@@ -129,7 +129,7 @@ impl<'a, N: RunName, V: Folder, J: Job, G: Gate, K: Knowing> State<'a, N, V, J, 
         ensures runs { Runs E.exact (mapper_turn (mapper_of N.records N.script N.settings self.old)) (E.deeds reach.old) (mapper_of N.records N.script N.settings self.new, said_turn result) (E.deeds reach.new) }
         ensures failed { self.new.failed ≡ has_failed (said_turn result) }
         ensures fits { FitsBoard N.job N.records N.settings N.tells K.knows K.board self.new (E.deeds reach.new) }
-        ensures cause { TurnCause (Maps (mapper_of N.records N.script N.settings self.old)) (counts_of V.seen self.old.vault) (counts_of V.seen self.new.vault) result }
+        ensures cause { TurnCause N.job N.records N.script N.settings (Maps (mapper_of N.records N.script N.settings self.old)) (counts_of V.seen self.old.vault) (counts_of V.seen self.new.vault) result }
         ensures adds { has_failed (said_turn result) ≡ false → AddsAtMost N.job N.records N.settings (V.seen self.old.vault.folder).held (V.seen self.new.vault.folder).held self.old.vault.rows self.new.vault.rows }
         ensures only { OnlySpills (V.seen self.old.vault.folder).held (V.seen self.new.vault.folder).held }
         ensures worker { self.new.vault.worker ≡ self.old.vault.worker }

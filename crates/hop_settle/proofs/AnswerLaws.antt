@@ -1,5 +1,7 @@
 -- What the code reads off the answer of a turn.
-use Rattle.std.proofs.Common.{◌≡◌, true, false, List, refl, sym, ◌∙◌, subst, OnOk, IfErr}
+use Rattle.std.proofs.Common.{◌≡◌, ℕ, true, false, List, refl, sym, ◌∙◌, subst, OnOk, IfErr}
+use Rattle.hop_base.specs.Meaning.{Meaning}
+use Rattle.hop_base.specs.Run.{ScriptLines, RunSettings}
 use Rattle.hop_machine.specs.home.MapperHome.{has_failed}
 use Rattle.hop_machine.specs.play.Play.{Place, unless_spent}
 use Rattle.hop_actors.specs.declared.turn.Turn.{Turn}
@@ -37,11 +39,11 @@ err_when answer.Idle Q h = tt
 err_when answer.Ended Q h = tt
 err_when (answer.Failed f) Q h = h f refl
 
-pub counts_same : (t : Turn) (a b : List Counts) → has_failed (said_turn t) ≡ false → MapCounts a b t → b ≡ a
-counts_same answer.Worked a b h k = k
-counts_same answer.Idle a b h k = k
-counts_same answer.Ended a b h k = k
-counts_same (answer.Failed f) a b h k = let n : true ≡ false = sym (fault_failed f) ∙ h in cc
+pub counts_same : (job : Meaning) (records : List (List ℕ)) (script : ScriptLines) (settings : RunSettings) (t : Turn) (a b : List Counts) → has_failed (said_turn t) ≡ false → MapCounts job records script settings a b t → b ≡ a
+counts_same job records script settings answer.Worked a b h k = k
+counts_same job records script settings answer.Idle a b h k = k
+counts_same job records script settings answer.Ended a b h k = k
+counts_same job records script settings (answer.Failed f) a b h k = let n : true ≡ false = sym (fault_failed f) ∙ h in cc
 
-pub counts_stop : (t : Turn) (f : Fault) (a b : List Counts) → t ≡ answer.Failed f → MapCounts a b t → StoreStopped a b f
-counts_stop t f a b is k = subst (λ (u : Turn). MapCounts a b u) is k
+pub counts_stop : (job : Meaning) (records : List (List ℕ)) (script : ScriptLines) (settings : RunSettings) (t : Turn) (f : Fault) (a b : List Counts) → t ≡ answer.Failed f → MapCounts job records script settings a b t → StoreStopped job records script settings a b f
+counts_stop job records script settings t f a b is k = subst (λ (u : Turn). MapCounts job records script settings a b u) is k

@@ -1,5 +1,7 @@
 -- The turns of a turn list.
 use Rattle.std.proofs.Common.{◌≡◌, ⊎_elim, ℕ, suc, ◌+◌, ◌-◌, ◌≤◌, ◌<◌, Bool, List, ◌∷◌, length, refl, sym, ap, ◌∙◌, subst, slice_set, get_or, drop, drop-cons, add-one, Some, Result, Ok, Err, arith}
+use Rattle.hop_base.specs.Meaning.{Meaning}
+use Rattle.hop_base.specs.Run.{ScriptLines, RunSettings}
 use Rattle.hop_script.specs.declared.turn.Turn.{Turn as Line}
 use Rattle.std.proofs.lemmas.List.Sums.{sum_by-drop_more}
 use Rattle.hop_script.specs.TurnLines.{turn_count}
@@ -69,8 +71,8 @@ repeated-next o later n i l = let e : n - i ≡ suc (n - (i + 1)) = omega (arith
 pub repeated-over : (o : Order) (later : List Order) (n i : ℕ) → n ≤ i → repeated (n - i) o later ≡ later
 repeated-over o later n i l = let e : n - i ≡ 0 = omega (arith, l) in ap (λ k. repeated k o later) e
 
-pub merger-memory : (x : Acting) (a b : Counts) (t : Turn) (f : Fault) → x ≡ Merges → t ≡ answer.Failed f → TurnCause x a b t → f ≡ fault.NoMemory
-merger-memory x a b t f is so h = memory-only a b f (subst (λ (z : Acting × Turn). TurnCause z.0 a b z.1) (λ i. (is i, so i)) h)
+pub merger-memory : (job : Meaning) (records : List (List ℕ)) (script : ScriptLines) (settings : RunSettings) (x : Acting) (a b : Counts) (t : Turn) (f : Fault) → x ≡ Merges → t ≡ answer.Failed f → TurnCause job records script settings x a b t → f ≡ fault.NoMemory
+merger-memory job records script settings x a b t f is so h = memory-only a b f (subst (λ (z : Acting × Turn). TurnCause job records script settings z.0 a b z.1) (λ i. (is i, so i)) h)
 
 -- # Where the run goes on, or a fault ended it
 

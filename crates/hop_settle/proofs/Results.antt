@@ -3,6 +3,8 @@ use Rattle.std.proofs.Common.{◌≡◌, ℕ, List, Some, slice_set, refl, sym, 
 use Rattle.std.specs.Prelude.{IsErr, OnOk, IfErr}
 use Rattle.std.specs.List.{slice_get}
 use Rattle.std.proofs.lemmas.Bool.{true≢false}
+use Rattle.hop_base.specs.Meaning.{Meaning}
+use Rattle.hop_base.specs.Run.{ScriptLines, RunSettings}
 use Rattle.hop_actors.specs.Calls.{found}
 use Rattle.hop_actors.specs.declared.fault.Fault.{Fault}
 use Rattle.hop_actors.specs.Counting.{Counts, StoreCause}
@@ -22,5 +24,5 @@ module _ {A E : Type 0} where
   err-more (Err e) P Q f h = f e h
 
 -- a mapper of a list failed
-pub store-stopped : (n w : ℕ) (xs ys : List Counts) (x y : Counts) (f : Fault) → n ≡ w → slice_get xs w ≡ Some x → ys ≡ slice_set xs w y → StoreCause n x y f → StoresStop xs ys f
-store-stopped n w xs ys x y f at here now cause = inl (record { worker = w; before = x; here = here; after = y; cause = subst (λ k. StoreCause k x y f) at cause; now = now })
+pub store-stopped : (job : Meaning) (records : List (List ℕ)) (script : ScriptLines) (settings : RunSettings) (n w : ℕ) (xs ys : List Counts) (x y : Counts) (f : Fault) → n ≡ w → slice_get xs w ≡ Some x → ys ≡ slice_set xs w y → StoreCause job records script settings n x y f → StoresStop job records script settings xs ys f
+store-stopped job records script settings n w xs ys x y f at here now cause = inl (record { worker = w; before = x; here = here; after = y; cause = subst (λ k. StoreCause job records script settings k x y f) at cause; now = now })

@@ -3,6 +3,8 @@ use Rattle.std.proofs.Common.{◌≡◌, ℕ, ◌<◌, Bool, false, List, length
 use Rattle.std.proofs.lemmas.List.{map-set}
 use Rattle.std.proofs.lemmas.Option.{slice_get-get_or}
 use Rattle.std.proofs.Math.Seq.{map-set_same}
+use Rattle.hop_base.specs.Meaning.{Meaning}
+use Rattle.hop_base.specs.Run.{ScriptLines, RunSettings}
 use Rattle.hop_machine.specs.declared.words.Turn.{Turn as Said}
 use Rattle.hop_machine.specs.step.Steps.{Deeds, Ends, Runs}
 use Rattle.hop_machine.specs.actors.MapperTurns.{Mapper, mapper_turn}
@@ -51,16 +53,16 @@ module _ {M : Type 0} (xs : List M) (w : ℕ) (x y d : M) (l : w < length xs) (a
       (λ (s : slice_get xs k ≡ Some m). let o = old k m s in (o.0, subst (fits m) (sym same) o.1))
       (get_set xs w k y m is)
 
-  pub counted_at : (counts : M → Counts) (m : Mapper) → m.number ≡ w → (t : Turn) → TurnCause (Maps m) (counts x) (counts y) t → MapCounts (map counts xs) (map counts (slice_set xs w y)) t
-  counted_at counts m number answer.Worked h = map-set_same counts xs w y d (h ∙ ap counts at)
-  counted_at counts m number answer.Idle h = map-set_same counts xs w y d (h ∙ ap counts at)
-  counted_at counts m number answer.Ended h = map-set_same counts xs w y d (h ∙ ap counts at)
-  counted_at counts m number (answer.Failed f) h = record {
+  pub counted_at : (job : Meaning) (records : List (List ℕ)) (script : ScriptLines) (settings : RunSettings) (counts : M → Counts) (m : Mapper) → m.number ≡ w → (t : Turn) → TurnCause job records script settings (Maps m) (counts x) (counts y) t → MapCounts job records script settings (map counts xs) (map counts (slice_set xs w y)) t
+  counted_at job records script settings counts m number answer.Worked h = map-set_same counts xs w y d (h ∙ ap counts at)
+  counted_at job records script settings counts m number answer.Idle h = map-set_same counts xs w y d (h ∙ ap counts at)
+  counted_at job records script settings counts m number answer.Ended h = map-set_same counts xs w y d (h ∙ ap counts at)
+  counted_at job records script settings counts m number (answer.Failed f) h = record {
     worker = w;
     before = counts x;
     here = map-at counts xs w x stands_at;
     after = counts y;
-    cause = subst (λ n. StoreCause n (counts x) (counts y) f) number h;
+    cause = subst (λ n. StoreCause job records script settings n (counts x) (counts y) f) number h;
     now = map-set counts xs w y;
   }
 
@@ -68,5 +70,5 @@ module _ {M : Type 0} (xs : List M) (w : ℕ) (x y d : M) (l : w < length xs) (a
 pub same_board : (e : Bool) (m : Mapper) (a b : Deeds) (y : Mapper × Said) → Runs e (mapper_turn m) a y b → b.ends.board ≡ a.ends.board
 same_board e m a b y h = ap (λ (k : Ends). k.board) (Runs-ends e (mapper_turn m) a b y h)
 
-pub cause_is : (x : Acting) (m : Mapper) (a b : Counts) (t : Turn) → x ≡ Maps m → TurnCause x a b t → TurnCause (Maps m) a b t
-cause_is x m a b t is h = subst (λ (z : Acting). TurnCause z a b t) is h
+pub cause_is : (job : Meaning) (records : List (List ℕ)) (script : ScriptLines) (settings : RunSettings) (x : Acting) (m : Mapper) (a b : Counts) (t : Turn) → x ≡ Maps m → TurnCause job records script settings x a b t → TurnCause job records script settings (Maps m) a b t
+cause_is job records script settings x m a b t is h = subst (λ (z : Acting). TurnCause job records script settings z a b t) is h

@@ -1,5 +1,7 @@
 -- A turn of the writer, at the end of settling.
-use Rattle.std.proofs.Common.{◌≡◌, Bool, false, List, refl, sym, ap, ◌∙◌, subst, cond, Ok, Err, Result}
+use Rattle.std.proofs.Common.{◌≡◌, ℕ, Bool, false, List, refl, sym, ap, ◌∙◌, subst, cond, Ok, Err, Result}
+use Rattle.hop_base.specs.Meaning.{Meaning}
+use Rattle.hop_base.specs.Run.{ScriptLines, RunSettings}
 use Rattle.hop_machine.specs.declared.words.Turn.{Turn}
 use Rattle.hop_machine.specs.declared.words.Turn.TheVariants as said
 use Rattle.hop_machine.specs.declared.words.Who.TheVariants as whose
@@ -35,15 +37,15 @@ err_is : (a b : Fault) → ◌≡◌ {A = Result Bool Fault} (Err a) (Err b) →
 err_is a b h = cc
 
 -- a fault of its turn halts the run
-pub write-halts : (t : Answer) (f : Fault) (w : Acting) (x : Writer) (a b : Counts) → idle_or_fault t ≡ Err f → w ≡ Writes x → TurnCause w a b t → (go again : Place) → once_idle (said_turn t) go again ≡ place_after {A = Unit {0}} (Err f) go
-write-halts (answer.Failed g) f w x a b h is cause go again =
+pub write-halts : (job : Meaning) (records : List (List ℕ)) (script : ScriptLines) (settings : RunSettings) (t : Answer) (f : Fault) (w : Acting) (x : Writer) (a b : Counts) → idle_or_fault t ≡ Err f → w ≡ Writes x → TurnCause job records script settings w a b t → (go again : Place) → once_idle (said_turn t) go again ≡ place_after {A = Unit {0}} (Err f) go
+write-halts job records script settings (answer.Failed g) f w x a b h is cause go again =
     let same : g ≡ f = err_is g f h in
-    let stops : said_fault g ≡ said.Stopped = writer_stops g a b (subst (λ (z : Acting). TurnCause z a b (answer.Failed g)) is cause) in
+    let stops : said_fault g ≡ said.Stopped = writer_stops g a b (subst (λ (z : Acting). TurnCause job records script settings z a b (answer.Failed g)) is cause) in
     let then : said_fault f ≡ said.Stopped = ap said_fault (sym same) ∙ stops in
     ap (λ (u : Turn). once_idle u go again) stops ∙ sym (ap (λ (u : Turn). Rattle.hop_machine.specs.play.Play.unless_spent u go) then)
-write-halts answer.Worked f w x a b h is cause go again = cc
-write-halts answer.Idle f w x a b h is cause go again = cc
-write-halts answer.Ended f w x a b h is cause go again = cc
+write-halts job records script settings answer.Worked f w x a b h is cause go again = cc
+write-halts job records script settings answer.Idle f w x a b h is cause go again = cc
+write-halts job records script settings answer.Ended f w x a b h is cause go again = cc
 
 module _ (e : Bool) (x y : Writer) (a b : Deeds) (t : Turn) (run : Runs e (writer_turn x) a (y, t) b) where
   pub write-ends : b.ends ≡ a.ends
@@ -68,8 +70,8 @@ on_ok answer.Idle b h = refl
 on_ok answer.Ended b h = refl
 on_ok (answer.Failed f) b h = cc
 
-pub counts_on : (t : Answer) (k : Bool) (w : Acting) (a b : Counts) → idle_or_fault t ≡ Ok k → TurnCause w a b t → b ≡ a
-counts_on answer.Worked k w a b h c = c
-counts_on answer.Idle k w a b h c = c
-counts_on answer.Ended k w a b h c = c
-counts_on (answer.Failed f) k w a b h c = cc
+pub counts_on : (job : Meaning) (records : List (List ℕ)) (script : ScriptLines) (settings : RunSettings) (t : Answer) (k : Bool) (w : Acting) (a b : Counts) → idle_or_fault t ≡ Ok k → TurnCause job records script settings w a b t → b ≡ a
+counts_on job records script settings answer.Worked k w a b h c = c
+counts_on job records script settings answer.Idle k w a b h c = c
+counts_on job records script settings answer.Ended k w a b h c = c
+counts_on job records script settings (answer.Failed f) k w a b h c = cc

@@ -36,7 +36,7 @@ fn catch_attempt<N: RunName, E: Reach<N>, M: Store<N, E>, D: Taker<N, E>>(
     ensures same { map M.mapper mappers.new.items ≡ map M.mapper mappers.old.items }
     ensures well { AreWell M.failed M.fits (E.deeds reach.new).ends.board mappers.new.items }
     ensures counts { OnOk result (map M.counts mappers.new.items ≡ map M.counts mappers.old.items) }
-    ensures cause { IfErr result (StoresStop (map M.counts mappers.old.items) (map M.counts mappers.new.items)) }
+    ensures cause { IfErr result (StoresStop N.job N.records N.script N.settings (map M.counts mappers.old.items) (map M.counts mappers.new.items)) }
     ensures stops { IfErr result (λ fault. said_fault fault ≡ said.Stopped) }
 {
     let end = keeper_of::<N, E, M>(mappers, split, attempt).end;
@@ -89,7 +89,7 @@ fn catch_split<N: RunName, E: Reach<N>, M: Store<N, E>, D: Taker<N, E>>(
     ensures same { map M.mapper mappers.new.items ≡ map M.mapper mappers.old.items }
     ensures well { AreWell M.failed M.fits (E.deeds reach.new).ends.board mappers.new.items }
     ensures counts { OnOk result (map M.counts mappers.new.items ≡ map M.counts mappers.old.items) }
-    ensures cause { IfErr result (StoresStop (map M.counts mappers.old.items) (map M.counts mappers.new.items)) }
+    ensures cause { IfErr result (StoresStop N.job N.records N.script N.settings (map M.counts mappers.old.items) (map M.counts mappers.new.items)) }
     ensures stops { IfErr result (λ fault. said_fault fault ≡ said.Stopped) }
 {
     for attempt in 0..begun_of::<N, E, M>(mappers, split) {
@@ -114,7 +114,7 @@ fn catch_splits<N: RunName, E: Reach<N>, M: Store<N, E>, D: Taker<N, E>>(
     ensures same { map M.mapper mappers.new.items ≡ map M.mapper mappers.old.items }
     ensures well { AreWell M.failed M.fits (E.deeds reach.new).ends.board mappers.new.items }
     ensures counts { OnOk result (map M.counts mappers.new.items ≡ map M.counts mappers.old.items) }
-    ensures cause { IfErr result (StoresStop (map M.counts mappers.old.items) (map M.counts mappers.new.items)) }
+    ensures cause { IfErr result (StoresStop N.job N.records N.script N.settings (map M.counts mappers.old.items) (map M.counts mappers.new.items)) }
     ensures stops { IfErr result (λ fault. said_fault fault ≡ said.Stopped) }
 {
     let splits = reducer.lens().as_slice().len();
@@ -140,7 +140,7 @@ fn catch_one<N: RunName, E: Reach<N>, M: Store<N, E>, D: Taker<N, E>>(
     ensures same { map M.mapper mappers.new.items ≡ map M.mapper mappers.old.items }
     ensures well { AreWell M.failed M.fits (E.deeds reach.new).ends.board mappers.new.items }
     ensures counts { OnOk result (map M.counts mappers.new.items ≡ map M.counts mappers.old.items) }
-    ensures cause { IfErr result (StoresStop (map M.counts mappers.old.items) (map M.counts mappers.new.items)) }
+    ensures cause { IfErr result (StoresStop N.job N.records N.script N.settings (map M.counts mappers.old.items) (map M.counts mappers.new.items)) }
     ensures stops { IfErr result (λ fault. said_fault fault ≡ said.Stopped) }
 {
     if !reducer.lagging() {
@@ -174,7 +174,7 @@ pub fn catch_up<N: RunName, E: Reach<N>, M: Store<N, E>, D: Taker<N, E>>(
     ensures count { length reducers.new.items ≡ length reducers.old.items }
     ensures well { AreWell M.failed M.fits (E.deeds reach.new).ends.board mappers.new.items }
     ensures counts { OnOk result (map M.counts mappers.new.items ≡ map M.counts mappers.old.items) }
-    ensures cause { IfErr result (StoresStop (map M.counts mappers.old.items) (map M.counts mappers.new.items)) }
+    ensures cause { IfErr result (StoresStop N.job N.records N.script N.settings (map M.counts mappers.old.items) (map M.counts mappers.new.items)) }
 {
     for p in 0..reducers.len() {
         catch_one(mappers, &mut reducers[p], p as u8, reach)?;

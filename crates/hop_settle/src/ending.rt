@@ -43,7 +43,7 @@ fn work_off<N: RunName, E: Reach<N>, M: Store<N, E>, D: Taker<N, E>>(
     ensures count { (length mappers.new.items ≡ length mappers.old.items) × (length reducers.new.items ≡ length reducers.old.items) }
     ensures well { OnOk result (AreWell M.failed M.fits (E.deeds reach.new).ends.board mappers.new.items) }
     ensures counts { OnOk result (map M.counts mappers.new.items ≡ map M.counts mappers.old.items) }
-    ensures cause { IfErr result (StoresStop (map M.counts mappers.old.items) (map M.counts mappers.new.items)) }
+    ensures cause { IfErr result (StoresStop N.job N.records N.script N.settings (map M.counts mappers.old.items) (map M.counts mappers.new.items)) }
 {
     turns_are_enough();
     ends_are_gathered();
@@ -74,7 +74,7 @@ fn finish_all<N: RunName, E: Reach<N>, M: Store<N, E>, D: Taker<N, E>>(
     ensures same { map M.mapper mappers.new.items ≡ map M.mapper mappers.old.items }
     ensures well { AreWell M.failed M.fits (E.deeds reach.new).ends.board mappers.new.items }
     ensures counts { OnOk result (map M.counts mappers.new.items ≡ map M.counts mappers.old.items) }
-    ensures cause { IfErr result (StoresStop (map M.counts mappers.old.items) (map M.counts mappers.new.items)) }
+    ensures cause { IfErr result (StoresStop N.job N.records N.script N.settings (map M.counts mappers.old.items) (map M.counts mappers.new.items)) }
 {
     // As many as a run may have splits.
     let mut numbers = [0; 1024];
@@ -113,7 +113,7 @@ pub fn settle<N: RunName, E: Reach<N>, M: Store<N, E>, D: Taker<N, E>, W: Snapsh
     ensures count { (length mappers.new.items ≡ length mappers.old.items) × (length reducers.new.items ≡ length reducers.old.items) }
     ensures well { OnOk result (AreWell M.failed M.fits (E.deeds reach.new).ends.board mappers.new.items) }
     ensures counts { OnOk result ((map M.counts mappers.new.items ≡ map M.counts mappers.old.items) × (W.counts writer.new ≡ W.counts writer.old)) }
-    ensures cause { IfErr result (CrewStops (map M.counts mappers.old.items) (map M.counts mappers.new.items) (W.counts writer.old) (W.counts writer.new)) }
+    ensures cause { IfErr result (CrewStops N.job N.records N.script N.settings (map M.counts mappers.old.items) (map M.counts mappers.new.items) (W.counts writer.old) (W.counts writer.new)) }
 {
     pulls_may_begin();
     cut_lanes_are_emptied();

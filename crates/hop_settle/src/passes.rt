@@ -34,7 +34,7 @@ fn map_one<N: RunName, E: Reach<N>, M: Store<N, E>>(
     ensures fell { OnOk result ((ms : List Mapper) (a : Deeds) → w < length ms → PassFell w ms (flags_of ms) a (map M.mapper mappers.old.items) (flags_of (map M.mapper mappers.old.items)) (E.deeds reach.old)
         → PassFell (w + 1) ms (flags_of ms) a (map M.mapper mappers.new.items) (flags_of (map M.mapper mappers.new.items)) (E.deeds reach.new)) }
     ensures counts { OnOk result (map M.counts mappers.new.items ≡ map M.counts mappers.old.items) }
-    ensures cause { IfErr result (StoresStop (map M.counts mappers.old.items) (map M.counts mappers.new.items)) }
+    ensures cause { IfErr result (StoresStop N.job N.records N.script N.settings (map M.counts mappers.old.items) (map M.counts mappers.new.items)) }
 {
     if mappers[w].has_ended() {
         return Ok(());
@@ -58,7 +58,7 @@ pub fn map_all<N: RunName, E: Reach<N>, M: Store<N, E>>(
     ensures turns { (n : ℕ) → n ≤ 2 ^ 56 → TurnsBelow n (map M.mapper mappers.old.items) → TurnsBelow (n + 1) (map M.mapper mappers.new.items) }
     ensures fell { OnOk result (PassFell (length mappers.old.items) (map M.mapper mappers.old.items) (flags_of (map M.mapper mappers.old.items)) (E.deeds reach.old) (map M.mapper mappers.new.items) (flags_of (map M.mapper mappers.new.items)) (E.deeds reach.new)) }
     ensures counts { OnOk result (map M.counts mappers.new.items ≡ map M.counts mappers.old.items) }
-    ensures cause { IfErr result (StoresStop (map M.counts mappers.old.items) (map M.counts mappers.new.items)) }
+    ensures cause { IfErr result (StoresStop N.job N.records N.script N.settings (map M.counts mappers.old.items) (map M.counts mappers.new.items)) }
 {
     for w in 0..mappers.len() {
         map_one(mappers, w, reach)?;

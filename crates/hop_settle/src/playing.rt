@@ -37,7 +37,7 @@ fn order_mapper<N: RunName, E: Reach<N>, M: Store<N, E>>(
     ensures well { OnOk result (AreWell M.failed M.fits (E.deeds reach.new).ends.board mappers.new.items) }
     ensures turns { (n : ℕ) → TurnsBelow n (map M.mapper mappers.old.items) → TurnsBelow (n + 1) (map M.mapper mappers.new.items) }
     ensures counts { OnOk result (map M.counts mappers.new.items ≡ map M.counts mappers.old.items) }
-    ensures cause { IfErr result (StoresStop (map M.counts mappers.old.items) (map M.counts mappers.new.items)) }
+    ensures cause { IfErr result (StoresStop N.job N.records N.script N.settings (map M.counts mappers.old.items) (map M.counts mappers.new.items)) }
 {
     went_on(map_turn(mappers, w as usize, reach))
 }
@@ -136,7 +136,7 @@ fn order<
     ensures turns { (n : ℕ) → TurnsBelow n (map M.mapper mappers.old.items) → TurnsBelow (n + 1) (map M.mapper mappers.new.items) }
     ensures counts { OnOk result (map M.counts mappers.new.items ≡ map M.counts mappers.old.items) }
     ensures put { OnOk result (W.counts writer.new ≡ W.counts writer.old) }
-    ensures cause { IfErr result (CrewStops (map M.counts mappers.old.items) (map M.counts mappers.new.items) (W.counts writer.old) (W.counts writer.new)) }
+    ensures cause { IfErr result (CrewStops N.job N.records N.script N.settings (map M.counts mappers.old.items) (map M.counts mappers.new.items) (W.counts writer.old) (W.counts writer.new)) }
 {
     match actor {
         TurnOf::Mapper(w) => order_mapper(mappers, w, reach),
@@ -186,7 +186,7 @@ fn line<
     ensures turns { (n : ℕ) → TurnsBelow n (map M.mapper mappers.old.items) → TurnsBelow (n + turn.count) (map M.mapper mappers.new.items) }
     ensures counts { OnOk result (map M.counts mappers.new.items ≡ map M.counts mappers.old.items) }
     ensures put { OnOk result (W.counts writer.new ≡ W.counts writer.old) }
-    ensures cause { IfErr result (CrewStops (map M.counts mappers.old.items) (map M.counts mappers.new.items) (W.counts writer.old) (W.counts writer.new)) }
+    ensures cause { IfErr result (CrewStops N.job N.records N.script N.settings (map M.counts mappers.old.items) (map M.counts mappers.new.items) (W.counts writer.old) (W.counts writer.new)) }
 {
     for i in 0..turn.count {
         order(mappers, reducers, mergers, writer, reach, turn.actor)?;
@@ -234,7 +234,7 @@ pub fn play<
     ensures turns { (n : ℕ) → TurnsBelow n (map M.mapper mappers.old.items) → TurnsBelow (n + turn_count turns.now) (map M.mapper mappers.new.items) }
     ensures counts { OnOk result (map M.counts mappers.new.items ≡ map M.counts mappers.old.items) }
     ensures put { OnOk result (W.counts writer.new ≡ W.counts writer.old) }
-    ensures cause { IfErr result (CrewStops (map M.counts mappers.old.items) (map M.counts mappers.new.items) (W.counts writer.old) (W.counts writer.new)) }
+    ensures cause { IfErr result (CrewStops N.job N.records N.script N.settings (map M.counts mappers.old.items) (map M.counts mappers.new.items) (W.counts writer.old) (W.counts writer.new)) }
 {
     open(reducers, reach)?;
     for turn in turns.turns() {

@@ -58,7 +58,7 @@ fn fetch<N: RunName, E: Reach<N>, M: Store<N, E>>(
     ensures well { (board : List ℕ) → AreWell M.failed M.fits board mappers.old.items → AreWell M.failed M.fits board mappers.new.items }
     ensures stands { IfOk result (λ sheets. IsTrue N.tells → TogetherStand N.job.reduced sheets (pairs_of N.job N.records N.settings p part)) }
     ensures counts { OnOk result (map M.counts mappers.new.items ≡ map M.counts mappers.old.items) }
-    ensures cause { IfErr result (StoresStop (map M.counts mappers.old.items) (map M.counts mappers.new.items)) }
+    ensures cause { IfErr result (StoresStop N.job N.records N.script N.settings (map M.counts mappers.old.items) (map M.counts mappers.new.items)) }
     ensures stops { IfErr result (λ fault. said_fault fault ≡ said.Stopped) }
 {
     let keeper = keeper_of::<N, E, M>(mappers, part.split, part.attempt);
@@ -100,7 +100,7 @@ pub(crate) fn pull_into<N: RunName, E: Reach<N>, M: Store<N, E>, D: Taker<N, E>>
     ensures same { map M.mapper mappers.new.items ≡ map M.mapper mappers.old.items }
     ensures well { AreWell M.failed M.fits (E.deeds reach.new).ends.board mappers.new.items }
     ensures counts { OnOk result (map M.counts mappers.new.items ≡ map M.counts mappers.old.items) }
-    ensures cause { IfErr result (StoresStop (map M.counts mappers.old.items) (map M.counts mappers.new.items)) }
+    ensures cause { IfErr result (StoresStop N.job N.records N.script N.settings (map M.counts mappers.old.items) (map M.counts mappers.new.items)) }
     ensures stops { IfErr result (λ fault. said_fault fault ≡ said.Stopped) }
 {
     let sheets = fetch::<N, E, M>(mappers, part, p)?;
@@ -128,7 +128,7 @@ pub(crate) fn pull<N: RunName, E: Reach<N>, M: Store<N, E>, D: Taker<N, E>>(
     ensures same { map M.mapper mappers.new.items ≡ map M.mapper mappers.old.items }
     ensures well { AreWell M.failed M.fits (E.deeds reach.new).ends.board mappers.new.items }
     ensures counts { OnOk result (map M.counts mappers.new.items ≡ map M.counts mappers.old.items) }
-    ensures cause { IfErr result (StoresStop (map M.counts mappers.old.items) (map M.counts mappers.new.items)) }
+    ensures cause { IfErr result (StoresStop N.job N.records N.script N.settings (map M.counts mappers.old.items) (map M.counts mappers.new.items)) }
     ensures stops { IfErr result (λ fault. said_fault fault ≡ said.Stopped) }
 {
     pull_into(mappers, &mut reducers[p as usize], p, part, reach)

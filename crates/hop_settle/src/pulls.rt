@@ -49,7 +49,7 @@ fn pull_winner<N: RunName, E: Reach<N>, M: Store<N, E>, D: Taker<N, E>>(
     ensures same { map M.mapper mappers.new.items ≡ map M.mapper mappers.old.items }
     ensures well { AreWell M.failed M.fits (E.deeds reach.new).ends.board mappers.new.items }
     ensures counts { OnOk result (map M.counts mappers.new.items ≡ map M.counts mappers.old.items) }
-    ensures cause { IfErr result (StoresStop (map M.counts mappers.old.items) (map M.counts mappers.new.items)) }
+    ensures cause { IfErr result (StoresStop N.job N.records N.script N.settings (map M.counts mappers.old.items) (map M.counts mappers.new.items)) }
     ensures stops { IfErr result (λ fault. said_fault fault ≡ said.Stopped) }
 {
     winners_are_pulled();
@@ -90,7 +90,7 @@ fn pull_one<N: RunName, E: Reach<N>, M: Store<N, E>, D: Taker<N, E>>(
     ensures same { map M.mapper mappers.new.items ≡ map M.mapper mappers.old.items }
     ensures well { AreWell M.failed M.fits (E.deeds reach.new).ends.board mappers.new.items }
     ensures counts { OnOk result (map M.counts mappers.new.items ≡ map M.counts mappers.old.items) }
-    ensures cause { IfErr result (StoresStop (map M.counts mappers.old.items) (map M.counts mappers.new.items)) }
+    ensures cause { IfErr result (StoresStop N.job N.records N.script N.settings (map M.counts mappers.old.items) (map M.counts mappers.new.items)) }
     ensures stops { IfErr result (λ fault. said_fault fault ≡ said.Stopped) }
 {
     pull_winner(mappers, &mut reducers[p as usize], p, split, reach)
@@ -123,7 +123,7 @@ fn pull_all<N: RunName, E: Reach<N>, M: Store<N, E>, D: Taker<N, E>>(
     ensures same { map M.mapper mappers.new.items ≡ map M.mapper mappers.old.items }
     ensures well { AreWell M.failed M.fits (E.deeds reach.new).ends.board mappers.new.items }
     ensures counts { OnOk result (map M.counts mappers.new.items ≡ map M.counts mappers.old.items) }
-    ensures cause { IfErr result (StoresStop (map M.counts mappers.old.items) (map M.counts mappers.new.items)) }
+    ensures cause { IfErr result (StoresStop N.job N.records N.script N.settings (map M.counts mappers.old.items) (map M.counts mappers.new.items)) }
 {
     let mut split = 0;
     while split < splits {
@@ -174,7 +174,7 @@ pub(crate) fn pull_and_finish<N: RunName, E: Reach<N>, M: Store<N, E>, D: Taker<
     ensures same { map M.mapper mappers.new.items ≡ map M.mapper mappers.old.items }
     ensures well { AreWell M.failed M.fits (E.deeds reach.new).ends.board mappers.new.items }
     ensures counts { OnOk result (map M.counts mappers.new.items ≡ map M.counts mappers.old.items) }
-    ensures cause { IfErr result (StoresStop (map M.counts mappers.old.items) (map M.counts mappers.new.items)) }
+    ensures cause { IfErr result (StoresStop N.job N.records N.script N.settings (map M.counts mappers.old.items) (map M.counts mappers.new.items)) }
 {
     let splits = begun.len() as u32;
     for p in 0..reducers.len() as u8 {

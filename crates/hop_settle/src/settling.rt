@@ -38,7 +38,7 @@ fn pass<N: RunName, E: Reach<N>, M: Store<N, E>, D: Taker<N, E>>(
     ensures less { OnOk result (all_true (flags_of (map M.mapper mappers.old.items)) ≡ false → ((w : ℕ) → w < length mappers.old.items → HasRoom w (E.deeds reach.old))
         → pass_left (map M.mapper mappers.new.items) (flags_of (map M.mapper mappers.new.items)) (E.deeds reach.new) < pass_left (map M.mapper mappers.old.items) (flags_of (map M.mapper mappers.old.items)) (E.deeds reach.old)) }
     ensures counts { OnOk result (map M.counts mappers.new.items ≡ map M.counts mappers.old.items) }
-    ensures cause { IfErr result (StoresStop (map M.counts mappers.old.items) (map M.counts mappers.new.items)) }
+    ensures cause { IfErr result (StoresStop N.job N.records N.script N.settings (map M.counts mappers.old.items) (map M.counts mappers.new.items)) }
 {
     let workers = mappers.len() as u8;
     map_all(mappers, reach)?;
@@ -65,7 +65,7 @@ pub(crate) fn passes<N: RunName, E: Reach<N>, M: Store<N, E>, D: Taker<N, E>>(
     ensures count { (length mappers.new.items ≡ length mappers.old.items) × (length reducers.new.items ≡ length reducers.old.items) }
     ensures well { OnOk result (AreWell M.failed M.fits (E.deeds reach.new).ends.board mappers.new.items) }
     ensures counts { OnOk result (map M.counts mappers.new.items ≡ map M.counts mappers.old.items) }
-    ensures cause { IfErr result (StoresStop (map M.counts mappers.old.items) (map M.counts mappers.new.items)) }
+    ensures cause { IfErr result (StoresStop N.job N.records N.script N.settings (map M.counts mappers.old.items) (map M.counts mappers.new.items)) }
 {
     // The lanes may be full before the first pass, and are empty before each later one.
     let mut first = true;

@@ -24,7 +24,7 @@ pub fn map_turn<N: RunName, E: Reach<N>, M: Store<N, E>>(
     requires well { AreWell M.failed M.fits (E.deeds reach.old).ends.board mappers.old.items }
     ensures mapped { Mapped E.exact w (map M.mapper mappers.old.items) (E.deeds reach.old) (map M.mapper mappers.new.items) (said_turn result) (E.deeds reach.new) }
     ensures well { has_failed (said_turn result) ≡ false → AreWell M.failed M.fits (E.deeds reach.new).ends.board mappers.new.items }
-    ensures counts { MapCounts (map M.counts mappers.old.items) (map M.counts mappers.new.items) result }
+    ensures counts { MapCounts N.job N.records N.script N.settings (map M.counts mappers.old.items) (map M.counts mappers.new.items) result }
 {
     mappers[w].turn(reach)
 }
@@ -54,7 +54,7 @@ pub fn write_turn<N: RunName, E: Reach<N>, W: SnapshotWriter<N, E>>(
     ensures runs { Runs E.exact (writer_turn (W.writer writer.old)) (E.deeds reach.old) (W.writer writer.new, said_turn result) (E.deeds reach.new) }
     ensures well { has_failed (said_turn result) ≡ false → W.failed writer.new ≡ false }
     ensures fits { W.fits writer.new (E.deeds reach.new).ends.board }
-    ensures cause { TurnCause (W.acting writer.old) (W.counts writer.old) (W.counts writer.new) result }
+    ensures cause { TurnCause N.job N.records N.script N.settings (W.acting writer.old) (W.counts writer.old) (W.counts writer.new) result }
 {
     writer.turn(reach)
 }

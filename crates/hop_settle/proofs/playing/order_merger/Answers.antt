@@ -37,4 +37,4 @@ pub returns-clause-memory : goal.returns-clause-memory
 returns-clause-memory g c = let G = g.G.Actor in let x = c.index_mut.result.now in let y = c.turn.new.self in let xs = c.args.mergers.now.items in
     subst (λ (r : Result (Unit {0}) Fault). IfErr r (λ f. f ≡ fault.NoMemory)) (sym c.went_on.ensures)
     (err_when c.turn.result (λ f. f ≡ fault.NoMemory)
-    (λ f is. merger-memory (G.acting x) (G.counts x) (G.counts y) c.turn.result f (c.requires.merges c.args.j x (stands_at xs c.args.j x x _ c.requires.place c.index_mut.ensures.value)) is c.turn.ensures.cause))
+    (λ f is. merger-memory g.N.RunName.job g.N.RunName.records g.N.RunName.script g.N.RunName.settings (G.acting x) (G.counts x) (G.counts y) c.turn.result f (c.requires.merges c.args.j x (stands_at xs c.args.j x x _ c.requires.place c.index_mut.ensures.value)) is c.turn.ensures.cause))

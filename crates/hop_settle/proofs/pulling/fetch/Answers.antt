@@ -34,11 +34,12 @@ returns-clause-counts g c =
 
 pub returns-clause-cause : goal.returns-clause-cause
 returns-clause-cause g c =
+    let R = g.N.RunName in
     let xs = c.args.mappers.now.items in let w = c.keeper_of-keeper.result.place in let f = g.M.Store.mapper in let h = g.M.Actor.counts in
     let x = c.index_mut.result.now in let y = c.fetch_back.new.self in
     let e = c.keeper_of-keeper.ensures.end in
     let k = c.keeper_of-keeper.ensures.keeper (omega (arith, e, c.requires.some, c.requires.kept)) in
     let inside : w < length xs = (let x = slice_get_within (map f xs) w k.keeper k.here in let n = length-map xs f in omega (arith, x, n)) in
     let at = at-place f xs w x inside c.index_mut.ensures.value in
-    err-more c.fetch_back.result (StoreCause (f x).number (h x) (h y)) (StoresStop (map h xs) (map h (slice_set xs w y)))
-    (λ fault cause. store-stopped (f x).number w (map h xs) (map h (slice_set xs w y)) (h x) (h y) fault (c.requires.may.number w (f x) (mapped-at f xs w x at)) (mapped-at h xs w x at) (mapped-set h xs w x y at) cause) c.fetch_back.ensures.cause
+    err-more c.fetch_back.result (StoreCause R.job R.records R.script R.settings (f x).number (h x) (h y)) (StoresStop R.job R.records R.script R.settings (map h xs) (map h (slice_set xs w y)))
+    (λ fault cause. store-stopped R.job R.records R.script R.settings (f x).number w (map h xs) (map h (slice_set xs w y)) (h x) (h y) fault (c.requires.may.number w (f x) (mapped-at f xs w x at)) (mapped-at h xs w x at) (mapped-set h xs w x y at) cause) c.fetch_back.ensures.cause

@@ -23,7 +23,7 @@ returns-clause-well g c = λ on.
 
 pub returns-clause-counts : goal.returns-clause-counts
 returns-clause-counts g c =
-    let M = g.M.Actor in let f = g.M.Store.mapper in let x = c.index_mut.result.now in let y = c.turn.new.self in
+    let R = g.N.RunName in let M = g.M.Actor in let f = g.M.Store.mapper in let x = c.index_mut.result.now in let y = c.turn.new.self in
     let at = stands_at c.args.mappers.now.items c.args.w x y _ c.requires.place c.index_mut.ensures.value in
-    counted_at c.args.mappers.now.items c.args.w x y _ c.requires.place c.index_mut.ensures.value M.counts (f x) (c.requires.may x at).number c.turn.result
-    (cause_is (M.acting x) (f x) (M.counts x) (M.counts y) c.turn.result (g.met.M.Store.is_mapper x) c.turn.ensures.cause)
+    counted_at c.args.mappers.now.items c.args.w x y _ c.requires.place c.index_mut.ensures.value R.job R.records R.script R.settings M.counts (f x) (c.requires.may x at).number c.turn.result
+    (cause_is R.job R.records R.script R.settings (M.acting x) (f x) (M.counts x) (M.counts y) c.turn.result (g.met.M.Store.is_mapper x) c.turn.ensures.cause)

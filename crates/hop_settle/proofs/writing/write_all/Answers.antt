@@ -39,7 +39,7 @@ returns-in_err-idle-clause-went g c = λ ms rs.
     let place : place_after {A = Unit {0}} (Err fault) go ≡ place_after c.from_residual.result go = search rules in
     went_both e (Writing, A) (Writing, B) (place_after c.from_residual.result go, D) (still-writes e l.idle c.loop-idle-test.true A B (l.invariant.went ms rs))
     (subst (λ (q : Place). Went e (Writing, B) (q, D))
-    (write-halts n.result fault (W.acting l.writer) (f l.writer) (W.counts l.writer) (W.counts n.new.writer) (sym c.was_idle.ensures ∙ c.in_err-idle.was) (g.met.W.SnapshotWriter.is_writer l.writer) n.ensures.cause go Writing ∙ place)
+    (write-halts g.N.RunName.job g.N.RunName.records g.N.RunName.script g.N.RunName.settings n.result fault (W.acting l.writer) (f l.writer) (W.counts l.writer) (W.counts n.new.writer) (sym c.was_idle.ensures ∙ c.in_err-idle.was) (g.met.W.SnapshotWriter.is_writer l.writer) n.ensures.cause go Writing ∙ place)
     (write-went e (f l.writer) (f n.new.writer) b d (said_turn n.result) n.ensures.runs ms rs))
 
 pub returns-in_err-idle-clause-ends : goal.returns-in_err-idle-clause-ends
@@ -69,7 +69,7 @@ loop-idle-preserved g c =
       ends = write-ends e (f l.writer) (f n.new.writer) b d (said_turn n.result) n.ensures.runs ∙ i.ends;
       well = n.ensures.well on;
       fits = n.ensures.fits;
-      counts = counts_on n.result c.in_ok-idle.idle (W.acting l.writer) (W.counts l.writer) (W.counts n.new.writer) (sym c.was_idle.ensures ∙ c.in_ok-idle.was) n.ensures.cause ∙ i.counts;
+      counts = counts_on g.N.RunName.job g.N.RunName.records g.N.RunName.script g.N.RunName.settings n.result c.in_ok-idle.idle (W.acting l.writer) (W.counts l.writer) (W.counts n.new.writer) (sym c.was_idle.ensures ∙ c.in_ok-idle.was) n.ensures.cause ∙ i.counts;
       went = λ ms rs.
           let A : World = world_of ms rs (f c.args.writer.now) a in let B : World = world_of ms rs (f l.writer) b in let D : World = world_of ms rs (f n.new.writer) d in
           went_both e (Writing, A) (Writing, B) (cond c.in_ok-idle.idle Over Writing, D) (still-writes e l.idle c.loop-idle-test.true A B (i.went ms rs))

@@ -2,6 +2,8 @@ use Rattle.std.proofs.Common.{sym, subst}
 use Rattle.hop_mapper.specs.Mappers.{MapperValue}
 use Rattle.hop_mapper.specs.Next.{IsNext}
 use Rattle.hop_mapper.proofs.Keeping.{keeps_made, still_told}
+use Rattle.hop_mapper.proofs.NamedLaws.{within_after, next_within}
+use Rattle.hop_shelf.specs.Names.{rules_of}
 use Rattle.hop_spill.specs.Spelling.{spill_in}
 use Rattle.hop_actors.specs.Spilled.{OnlySpills}
 use Rattle.hop_mapper.proofs.OnlySpilled.{only_kept}
@@ -15,6 +17,7 @@ invariant_of-self g c =
     record {
       of_run = inv.of_run;
       keeps = keeps_made R.job R.records R.settings c.args.part c.requires.spill old new c.self.inside.vault.rows c.keep_flat.new.self.rows c.keep_flat.result (spill_in c.args.spill.now) c.requires.value next c.keep_flat.ensures.kept c.keep_flat.ensures.cause inv.keeps;
+      ends = within_after (rules_of R.records R.script R.settings) old new c.self.inside.vault.rows c.keep_flat.new.self.rows c.keep_flat.result (spill_in c.args.spill.now) c.keep_flat.ensures.kept c.keep_flat.ensures.cause (next_within R.job R.records R.script R.settings c.self.inside.vault.rows c.args.part (spill_in c.args.spill.now) next c.requires.within c.requires.value) inv.ends;
       told = λ t. still_told R.job R.records R.settings c.args.part c.requires.spill old new c.self.inside.vault.rows c.keep_flat.new.self.rows c.keep_flat.result (spill_in c.args.spill.now) c.requires.value next c.keep_flat.ensures.kept c.keep_flat.ensures.cause (inv.told t);
       lanes = inv.lanes;
       counts = inv.counts;
@@ -29,6 +32,7 @@ invariant_of-self-in-Err-StoreFailed g c =
     record {
       of_run = inv.of_run;
       keeps = keeps_made R.job R.records R.settings c.args.part c.requires.spill old new c.self.inside.vault.rows c.keep_flat.new.self.rows c.keep_flat.result (spill_in c.args.spill.now) c.requires.value next c.keep_flat.ensures.kept c.keep_flat.ensures.cause inv.keeps;
+      ends = within_after (rules_of R.records R.script R.settings) old new c.self.inside.vault.rows c.keep_flat.new.self.rows c.keep_flat.result (spill_in c.args.spill.now) c.keep_flat.ensures.kept c.keep_flat.ensures.cause (next_within R.job R.records R.script R.settings c.self.inside.vault.rows c.args.part (spill_in c.args.spill.now) next c.requires.within c.requires.value) inv.ends;
       told = λ t. still_told R.job R.records R.settings c.args.part c.requires.spill old new c.self.inside.vault.rows c.keep_flat.new.self.rows c.keep_flat.result (spill_in c.args.spill.now) c.requires.value next c.keep_flat.ensures.kept c.keep_flat.ensures.cause (inv.told t);
       lanes = inv.lanes;
       counts = inv.counts;
@@ -43,6 +47,7 @@ invariant_of-self-in-Err-NoMemory g c =
     record {
       of_run = inv.of_run;
       keeps = keeps_made R.job R.records R.settings c.args.part c.requires.spill old new c.self.inside.vault.rows c.keep_flat.new.self.rows c.keep_flat.result (spill_in c.args.spill.now) c.requires.value next c.keep_flat.ensures.kept c.keep_flat.ensures.cause inv.keeps;
+      ends = within_after (rules_of R.records R.script R.settings) old new c.self.inside.vault.rows c.keep_flat.new.self.rows c.keep_flat.result (spill_in c.args.spill.now) c.keep_flat.ensures.kept c.keep_flat.ensures.cause (next_within R.job R.records R.script R.settings c.self.inside.vault.rows c.args.part (spill_in c.args.spill.now) next c.requires.within c.requires.value) inv.ends;
       told = λ t. still_told R.job R.records R.settings c.args.part c.requires.spill old new c.self.inside.vault.rows c.keep_flat.new.self.rows c.keep_flat.result (spill_in c.args.spill.now) c.requires.value next c.keep_flat.ensures.kept c.keep_flat.ensures.cause (inv.told t);
       lanes = inv.lanes;
       counts = inv.counts;

@@ -1,6 +1,10 @@
 use Rattle.std.proofs.Common.{◌≡◌, ◌⊎◌, ℕ, ◌+◌, ◌%◌, ◌<◌, ◌≤◌, inl, inr, refl, sym, ap, ◌∙◌, subst, arith}
 use Rattle.std.specs.Prelude.{min}
-use Rattle.hop_machine.specs.actors.MapperTurns.{spills}
+use Rattle.hop_base.specs.Run.{fails_at}
+use Rattle.hop_shelf.specs.Names.{rules_of}
+use Rattle.hop_machine.specs.actors.MapperTurns.{spills, spill_end}
+use Rattle.hop_machine.specs.step.Pushing.{kept_end as last_end}
+use Rattle.hop_machine.proofs.mapper.Spills.{spills_within}
 use Rattle.hop_machine.specs.step.Steps.{Runs}
 use Rattle.hop_inner.specs.Setups.{parts}
 use Rattle.hop_press.specs.Fits.{IsWhole}
@@ -30,6 +34,10 @@ keep-requires g c =
         some = more_there c.args.run.done R.settings.spill (split_len R.records R.settings c.args.run.split) c.spill_end-end.result here.within c.requires.more c.known.ensures.some_spill c.spill_end-end.ensures;
         to = c.spill_end-end.ensures;
       };
+      within =
+          let rules = rules_of R.records R.script R.settings in let r = running_of c.args.run in let size = c.known.ensures.some_spill in
+          subst (λ (n : ℕ). n ≤ last_end rules c.args.run.split c.args.run.attempt) (sym c.spill_end-end.ensures)
+          (spills_within R.settings.spill (split_len R.records R.settings c.args.run.split) c.args.run.done (spill_end rules r) (omega arith) refl (fails_at R.script c.args.run.split c.args.run.attempt) c.requires.goes_on here.whole);
     }
 
 pub give_parts-requires-clause-whole : goal.give_parts-requires-clause-whole
