@@ -3,7 +3,7 @@ use Rattle.std.proofs.Common.{◌≡◌, List, ℕ, Option, None, Some, refl, sy
 use Rattle.std.specs.Prelude.{option_and_then}
 use Rattle.clap.specs.declared.parser.matches.ArgMatches.{ArgMatches}
 use Rattle.hop_words.specs.Clap.{HasValues, given_in, plain_id, values_for}
-use Rattle.hop_words.specs.Options.{Asked, Given, asked, asked_by, asked_from, block, command_asked, options_asked, replay, run}
+use Rattle.hop_words.specs.Options.{Asked, Given, asked, asked_by, asked_from, block, chain, command_asked, options_asked, replay, run}
 use Rattle.hop_words.specs.Scan.{Scanned, scan, values_given}
 use Rattle.hop_words.specs.Table.{option_names}
 
@@ -19,6 +19,7 @@ module _ (s : Scanned) where
   same_options (block meaning input) = refl
   same_options (run meaning input) = refl
   same_options (replay meaning input) = refl
+  same_options (chain meanings input) = refl
 
   -- no option has the id of the plain words
   same_asked : asked_from by_id (by_id plain_id) ≡ asked_by s

@@ -1,4 +1,5 @@
 pub mod AskedLaws
+pub mod ChainLaws
 pub mod ClapAgrees
 pub mod ClapRules
 pub mod ClapRows

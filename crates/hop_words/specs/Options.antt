@@ -1,5 +1,5 @@
 -- What the words of a command line ask for, by cases from the tables of commands and options.
-use Rattle.std.specs.Prelude.{◌≡◌, ℕ, Bool, true, false, not, ◌==◌, if◌then◌else◌, List, [], ◌∷◌, ◌++◌, length, filter, Option, None, Some, IfSome, is_some, option_and_then, codes}
+use Rattle.std.specs.Prelude.{◌≡◌, ◌≤◌, ℕ, Bool, true, false, not, ◌&&◌, ◌==◌, if◌then◌else◌, List, [], ◌∷◌, ◌++◌, length, map, filter, Option, None, Some, IfSome, is_some, option_map, option_and_then, codes}
 use Rattle.std.specs.List.{list_all}
 use Rattle.std.specs.Str.{bytes_eq}
 use Rattle.hop_base.specs.Meaning.{Meaning}
@@ -10,12 +10,13 @@ use Rattle.hop_jobs.specs.Max.{max_meaning}
 use Rattle.hop_jobs.specs.Sum.{sum_meaning}
 use Rattle.hop_jobs.specs.Top.{top_meaning}
 use Rattle.hop_jobs.specs.Wc.{wc_meaning}
+use Rattle.hop_jobs.specs.declared.known.Known.{Known}
 use Rattle.hop_words.specs.Marks.{marks_in, yes_or_no_in}
 use Rattle.hop_words.specs.Names.{is_name, name_in}
 use Rattle.hop_words.specs.Scan.{Scanned, is_known, scan, values_given}
 use Rattle.hop_words.specs.Table.{NumberOption, attempts_option, job_options, k_option, lane_option, marks_option, number_in_row, option_names, reducers_option, run_options, script_option, spill_option, split_option, tentative_option, turn_options, turns_option, workers_option}
 use Rattle.hop_words.specs.declared.options.Command.{Command}
-use Rattle.hop_words.specs.declared.options.Command.TheVariants.{Block, Run, Replay}
+use Rattle.hop_words.specs.declared.options.Command.TheVariants.{Block, Run, Replay, Chain}
 use Rattle.hop_words.specs.declared.options.Options.{Options}
 
 -- a command: its job or jobs, and the names of its files
@@ -23,6 +24,7 @@ pub data Asked : Type 0 where
   block : Meaning → List ℕ → Asked
   run : Meaning → List ℕ → Asked
   replay : Meaning → List ℕ → Asked
+  chain : List Meaning → List ℕ → Asked
 
 -- a command with its settings, and the names of the files that options give
 pub record AskedOptions : Type 0 where
@@ -72,9 +74,22 @@ abbrev pub job_asked : ℕ → List ℕ → List ℕ → List ℕ → Option Ask
 job_asked k command job input =
     if is_name input then option_and_then (λ meaning. command_named command meaning input) (job_named k job) else None
 
--- the plain words, by the forms of the commands
+-- the jobs of these names, in order
+abbrev pub jobs_named : ℕ → List (List ℕ) → Option (List Meaning)
+jobs_named k [] = Some []
+jobs_named k (word ∷ words) = option_and_then (λ meaning. option_map (λ meanings. meaning ∷ meanings) (jobs_named k words)) (job_named k word)
+
+-- `chain`, the names of its jobs in order, and the input of the first
+abbrev pub chain_asked : ℕ → List ℕ → List (List ℕ) → List ℕ → Option Asked
+chain_asked k command jobs input =
+    if bytes_eq command (codes "chain") && is_name input then option_map (λ meanings. chain meanings input) (jobs_named k jobs) else None
+
+-- the plain words, by the forms of the commands: a chain has two to four jobs
 abbrev pub asked_plainly : ℕ → List (List ℕ) → Option Asked
 asked_plainly k (command ∷ job ∷ input ∷ []) = job_asked k command job input
+asked_plainly k (command ∷ first ∷ second ∷ input ∷ []) = chain_asked k command (first ∷ second ∷ []) input
+asked_plainly k (command ∷ first ∷ second ∷ third ∷ input ∷ []) = chain_asked k command (first ∷ second ∷ third ∷ []) input
+asked_plainly k (command ∷ first ∷ second ∷ third ∷ fourth ∷ input ∷ []) = chain_asked k command (first ∷ second ∷ third ∷ fourth ∷ []) input
 asked_plainly k others = None
 
 -- ---- the options
@@ -109,6 +124,7 @@ abbrev pub options_taken : Asked → List (List ℕ)
 options_taken (block meaning input) = job_options
 options_taken (run meaning input) = job_options ++ run_options
 options_taken (replay meaning input) = job_options ++ (run_options ++ turn_options)
+options_taken (chain meanings input) = job_options ++ run_options
 
 -- those that it doesn't take
 abbrev pub options_untaken : Asked → List (List ℕ)
@@ -126,6 +142,7 @@ abbrev pub has_all : Asked → Option (List ℕ) → Bool
 has_all (block meaning input) turns = true
 has_all (run meaning input) turns = true
 has_all (replay meaning input) turns = is_some turns
+has_all (chain meanings input) turns = true
 
 -- ---- all of it
 
@@ -178,6 +195,7 @@ abbrev pub command_of : Command → Asked
 command_of (Block job input) = block (known_meaning job) input
 command_of (Run job input) = run (known_meaning job) input
 command_of (Replay job input) = replay (known_meaning job) input
+command_of (Chain jobs input) = chain (map known_meaning jobs) input
 
 -- the options say this
 abbrev pub options_of : Options → AskedOptions
@@ -189,17 +207,24 @@ options_of o = record {
   trace = o.trace;
 }
 
--- the names in a command are names of files
+-- a chain of two to four jobs, whose input is the name of a file
+pub record IsChain (jobs : List Known) (input : List ℕ) : Type 0 where
+  pub some : 2 ≤ length jobs
+  pub few : length jobs ≤ 4
+  pub input_named : is_name input ≡ true
+
+-- the names in a command are names of files, and a chain has two to four jobs
 abbrev pub HasNames : Command → Type 0
 HasNames (Block job input) = is_name input ≡ true
 HasNames (Run job input) = is_name input ≡ true
 HasNames (Replay job input) = is_name input ≡ true
+HasNames (Chain jobs input) = IsChain jobs input
 
 -- the option names a file, where it is given
 abbrev pub NamesFile : Option (List ℕ) → Type 0
 NamesFile given = IfSome given (λ name. is_name name ≡ true)
 
--- all names are names of files, and the options that must be given are given
+-- all names are names of files, a chain has two to four jobs, and the options that must be given are given
 pub record HasFiles (o : Options) : Type 0 where
   pub command : HasNames o.command
   pub script : NamesFile o.script

@@ -57,7 +57,7 @@ turns_option = codes "turns"
 abbrev pub job_options : List (List ℕ)
 job_options = k_option.name ∷ reducers_option.name ∷ []
 
--- those of a run
+-- those of a run and of a chain
 abbrev pub run_options : List (List ℕ)
 run_options = split_option.name ∷ spill_option.name ∷ workers_option.name ∷ attempts_option.name ∷ lane_option.name ∷ marks_option ∷ tentative_option ∷ script_option ∷ []
 

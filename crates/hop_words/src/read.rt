@@ -37,7 +37,7 @@ fn has_all(command: &Command, turns: &Option<Text>) -> bool
     ensures { result ≡ has_all (command_of command.now) turns.now }
 {
     match command {
-        Command::Block { .. } | Command::Run { .. } => true,
+        Command::Block { .. } | Command::Run { .. } | Command::Chain { .. } => true,
         Command::Replay { .. } => turns.is_some(),
     }
 }

@@ -144,7 +144,7 @@ fn options_untaken(command: &Command) -> &'static [&'static str]
                 "turns",
             ]
         }
-        Command::Run { .. } => &["turns"],
+        Command::Run { .. } | Command::Chain { .. } => &["turns"],
         Command::Replay { .. } => &[],
     }
 }
