@@ -1,200 +1,174 @@
--- What a writer's folder holds, when a file more is put.
-use Rattle.std.proofs.Common.{◌≡◌, ◌≢◌, ◌⊎◌, ◌<◌, inl, inr, ℕ, Bool, true, false, not, cond, List, [], ◌∷◌, ◌++◌, Option, Some, None, refl, sym, ap, ◌∙◌, subst}
-use Rattle.std.specs.Prelude.{map, IsTrue, Result, Ok, Err, OnOk, OnErr, is_ok, is_err}
-use Rattle.std.specs.FinMap as files
-use Rattle.std.specs.Ordering.{nat_cmp, is_eq}
-use Rattle.std.specs.declared.cmp.Ordering.{Ordering}
-use Rattle.std.specs.declared.cmp.Ordering.TheVariants.{Less, Equal, Greater}
-use Rattle.std.specs.Cmp.Lexicographic.{slice_cmp}
-use Rattle.std.proofs.lemmas.Cmp.{nat_list_cmp_total}
-use Rattle.std.proofs.lemmas.Map.Lookups.{exact_bytes}
-use Rattle.std.proofs.lemmas.List.{map-append}
-use Rattle.std.proofs.lemmas.List.Elements.{All-nil, All-cons, All-head, All-tail, All-append}
+-- What a writer's folder holds and what it keeps, when a cut more was taken.
+use Rattle.std.proofs.Common.{◌≡◌, ◌+◌, ◌<◌, ℕ, Bool, true, false, List, [], ◌∷◌, ◌++◌, Option, Some, None, refl, sym, ap, ◌∙◌, subst, arith, length, take}
+use lib.Seq.{take-append-add}
+use Rattle.std.specs.Prelude.{IfSome, map, Result, Ok, Err, OnOk, OnErr, is_ok, is_err}
+use Rattle.std.proofs.lemmas.List.{append-nil, append_assoc, map-append}
+use Rattle.std.proofs.lemmas.List.Elements.{All-nil, All-cons, All-append}
 use Rattle.hop_base.specs.Files.{Files}
 use Rattle.hop_base.specs.Meaning.{Meaning}
 use Rattle.hop_base.specs.Run.{RunSettings}
 use Rattle.hop_base.specs.declared.settings.Settings.{Settings}
 use Rattle.hop_ports.specs.Views.{with_file}
 use Rattle.hop_cut.specs.declared.cut.Cut.{Cut}
+use Rattle.hop_jobs.specs.declared.known.Known.{Known}
 use Rattle.hop_machine.specs.actors.ReducerTurns.{Writing}
 use Rattle.hop_inner.specs.Messages.{said_cut}
+use Rattle.hop_writer.specs.Puts.{Puts, HoldsPut, with_files}
+use Rattle.hop_writer.specs.Snapshots.{AreSnapshots, HoldsSnaps, IsPut, IsSnapshot, Snapshot, files_at, files_from, files_of, kept_of}
+use Rattle.hop_writer.specs.Writers.{IsOfRun, IsSound, LeavesCut, PutsCut, kept_all, kept_with, writing_of}
+use Rattle.hop_writer.specs.declared.kept.Kept.{Kept}
 use Rattle.hop_writer.specs.declared.notes.Noted.{Noted}
-use Rattle.hop_writer.specs.Snapshots.{File, snap_name, with_files, HoldsPut, IsNoneOf, OnlySnaps, IsPut, snap_file, IsFileOf, PutsFile, AreFilesOf, AreThere, HoldsSnaps, HoldsRight}
-use Rattle.hop_writer.specs.Writers.{writing_of, IsSound}
 
 -- # Files
 
-not_tied : (name other : List ℕ) → name ≢ other → (o : Ordering) → slice_cmp nat_cmp name other ≡ o → is_eq o ≡ false
-not_tied name other differ Less e = refl
-not_tied name other differ Equal e = absurd (differ (exact_bytes name other e))
-not_tied name other differ Greater e = refl
+with_files-append : (held : Option Files) (first second : Puts) → with_files held (first ++ second) ≡ with_files (with_files held first) second
+with_files-append held [] second = refl
+with_files-append held (f ∷ first) second = with_files-append (with_file held f.0 f.1) first second
 
--- a file under another name
-get_other : (held : Files) (name other text : List ℕ) → name ≢ other → files.get (files.insert held other text) name ≡ files.get held name
-get_other held name other text differ =
-    files.get-insert nat_list_cmp_total held other text name ∙ ap (λ (b : Bool). cond b (Some text) (files.get held name)) (not_tied name other differ (slice_cmp nat_cmp name other) refl)
+held_so : (start now : Option Files) (files : Puts) → with_files start files ≡ now → HoldsPut start now files
+held_so start None files e = tt
+held_so start (Some held) files e = e
 
--- one file more
-with_more : (start : Option Files) (put : List File) (f : File) → with_files start (put ++ f ∷ []) ≡ with_file (with_files start put) f.0 f.1
-with_more start [] f = refl
-with_more start (x ∷ put) f = with_more (with_file start x.0 x.1) put f
+nothing : (files : Puts) → with_files None files ≡ None
+nothing [] = refl
+nothing (f ∷ files) = nothing files
 
-held_more : (start old new : Option Files) (put : List File) (f : File) → HoldsPut start old put → new ≡ with_file old f.0 f.1 → HoldsPut start new (put ++ f ∷ [])
-held_more start None new put f h e = subst (λ (now : Option Files). HoldsPut start now (put ++ f ∷ [])) (sym e) tt
-held_more start (Some held) new put f h e =
-    let there : HoldsPut start (Some (files.insert held f.0 f.1)) (put ++ f ∷ []) = with_more start put f ∙ ap (λ (x : Option Files). with_file x f.0 f.1) h in
-    subst (λ (now : Option Files). HoldsPut start now (put ++ f ∷ [])) (sym e) there
+-- files more
+held_more : (start old new : Option Files) (there files : Puts) → HoldsPut start old there → new ≡ with_files old files → HoldsPut start new (there ++ files)
+held_more start None new there files h e = subst (λ (now : Option Files). HoldsPut start now (there ++ files)) (sym (e ∙ nothing files)) tt
+held_more start (Some held) new there files h e = held_so start new (there ++ files) (with_files-append start there files ∙ ap (λ (x : Option Files). with_files x files) h ∙ sym e)
+
+-- # The files of one snapshot more
+
+module _ (later : List Meaning) (r : ℕ) where
+  files_from-more : (kept : List Kept) (snaps : List Snapshot) (s : Snapshot) → files_from later r kept (snaps ++ s ∷ []) ≡ files_from later r kept snaps ++ files_at later r (kept ++ map kept_of snaps) s
+  files_from-more kept [] s = append-nil (files_at later r kept s) ∙ ap (λ (k : List Kept). files_at later r k s) (sym (append-nil kept))
+  files_from-more kept (x ∷ snaps) s =
+      ap (λ (fs : Puts). files_at later r kept x ++ fs) (files_from-more (kept ++ kept_of x ∷ []) snaps s ∙ ap (λ (k : List Kept). files_from later r (kept ++ kept_of x ∷ []) snaps ++ files_at later r k s) (append_assoc kept (kept_of x ∷ []) (map kept_of snaps)))
+      ∙ sym (append_assoc (files_at later r kept x) (files_from later r (kept ++ kept_of x ∷ []) snaps) (files_at later r (kept ++ map kept_of (x ∷ snaps)) s))
+
+-- what a run of one job keeps makes no difference
+files_at-kept : (later : List Meaning) (r : ℕ) (snaps : List Snapshot) (s : Snapshot) → files_at later r (map kept_of snaps) s ≡ files_at later r (kept_all later snaps) s
+files_at-kept [] r snaps s = refl
+files_at-kept (job ∷ later) r snaps s = refl
+
+files_of-more : (later : List Meaning) (r : ℕ) (snaps : List Snapshot) (s : Snapshot) → files_of later r (snaps ++ s ∷ []) ≡ files_of later r snaps ++ files_at later r (kept_all later snaps) s
+files_of-more later r snaps s = files_from-more later r [] snaps s ∙ ap (λ (fs : Puts). files_of later r snaps ++ fs) (files_at-kept later r snaps s)
+
+kept_all-more : (later : List Meaning) (snaps : List Snapshot) (s : Snapshot) → kept_with later (kept_all later snaps) s ≡ kept_all later (snaps ++ s ∷ [])
+kept_all-more [] snaps s = refl
+kept_all-more (job ∷ later) snaps s = sym (map-append kept_of snaps (s ∷ []))
 
 -- # Of a run
 
-module _ (job : Meaning) (records : List (List ℕ)) (settings : RunSettings) (tells : Bool) (start : Option Files) where
-  abbrev IsFile : Writing → File → Type 0
-  IsFile w f = IsFileOf job records settings tells w.reducer w.cut f
-
-  abbrev Are : List Writing → List File → Type 0
-  Are ws put = AreFilesOf job records settings tells ws put
-
-  abbrev Puts : Writing → Option Files → Option Files → Type 0
-  Puts w old new = PutsFile job records settings tells w.reducer w.cut old new
+module _ (job : Meaning) (records : List (List ℕ)) (settings : RunSettings) (later : List Meaning) (tells : Bool) (start : Option Files) where
+  abbrev Are : List Writing → List Snapshot → Type 0
+  Are ws snaps = AreSnapshots job records settings tells ws snaps
 
   abbrev Holds : Bool → Option Files → List Writing → Type 0
-  Holds failed now ws = HoldsSnaps job records settings tells failed start now ws
+  Holds failed now ws = HoldsSnaps job records settings later tells failed start now ws
 
-  files_more : (ws : List Writing) (put : List File) (w : Writing) (f : File) → Are ws put → IsFile w f → Are (ws ++ w ∷ []) (put ++ f ∷ [])
-  files_more [] [] w f are is = (is, tt)
-  files_more [] (x ∷ put) w f are is = absurd are
-  files_more (x ∷ ws) [] w f are is = absurd are
-  files_more (x ∷ ws) (y ∷ put) w f are is = (are.0, files_more ws put w f are.1 is)
+  abbrev Puts_ : Writing → List Kept → List Kept → Option Files → Option Files → Type 0
+  Puts_ w kept then old new = PutsCut job records settings later tells w.reducer w.cut kept then old new
 
-  -- the files are those of all writings
-  of_all : (now : Option Files) (ws : List Writing) (h : Holds false now ws) → Are ws h.put
-  of_all now ws h = subst (λ (xs : List Writing). Are xs h.put) h.are_there.there_are h.files
+  abbrev Leaves : Writing → List Kept → Option Files → Option Files → Type 0
+  Leaves w kept old new = LeavesCut job records settings later tells w.reducer w.cut kept old new
 
-  put_more : (old new : Option Files) (ws : List Writing) (w : Writing) → Holds false old ws → w.put ≡ true → Puts w old new → Holds false new (ws ++ w ∷ [])
-  put_more old new ws w h is p = record {
-    there = ws ++ w ∷ [];
-    are_there = record { put = All-append IsPut ws (w ∷ []) h.are_there.put (All-cons IsPut w [] is (All-nil IsPut)); there_are = refl };
-    put = h.put ++ p.file ∷ [];
-    files = files_more ws h.put w p.file (of_all old ws h) p.is;
-    held = held_more start old new h.put p.file h.held p.held;
-  }
+  -- it holds the files of what it wrote, and keeps what the later jobs take of that
+  abbrev Sound : Bool → Option Files → List Kept → List Writing → Type 0
+  Sound failed now kept ws = (h : Holds failed now ws) × (failed ≡ false → kept ≡ kept_all later h.snaps)
 
-  abbrev Left : Writing → Option Files → Option Files → Type 0
-  Left w old new = (new ≡ old) ⊎ Puts w old new
+  are_more : (ws : List Writing) (snaps : List Snapshot) (w : Writing) (s : Snapshot) → Are ws snaps → IsSnapshot job records settings tells w.reducer w.cut s → Are (ws ++ w ∷ []) (snaps ++ s ∷ [])
+  are_more [] [] w s are is = (is, tt)
+  are_more [] (x ∷ snaps) w s are is = absurd are
+  are_more (x ∷ ws) [] w s are is = absurd are
+  are_more (x ∷ ws) (y ∷ snaps) w s are is = (are.0, are_more ws snaps w s are.1 is)
 
-  stopped : (old new : Option Files) (ws : List Writing) (w : Writing) → Holds false old ws → w.put ≡ false → Left w old new → Holds true new (ws ++ w ∷ [])
-  stopped old new ws w h not_put (inl same) = record {
-    there = ws;
-    are_there = record { earlier = ws; last = w; writings_are = refl; put = h.are_there.put; not_put = not_put; there_are = inl refl };
-    put = h.put;
-    files = of_all old ws h;
-    held = subst (λ (now : Option Files). HoldsPut start now h.put) (sym same) h.held;
-  }
-  stopped old new ws w h not_put (inr p) = record {
-    there = ws ++ w ∷ [];
-    are_there = record { earlier = ws; last = w; writings_are = refl; put = h.are_there.put; not_put = not_put; there_are = inr refl };
-    put = h.put ++ p.file ∷ [];
-    files = files_more ws h.put w p.file (of_all old ws h) p.is;
-    held = held_more start old new h.put p.file h.held p.held;
-  }
-
-  -- what is held after a cut was taken, by whether its file was put
-  after : (put : Bool) (old new : Option Files) (ws : List Writing) (w : Writing) → w.put ≡ put → Holds false old ws → (put ≡ true → Puts w old new) → (put ≡ false → Left w old new) → Holds (not put) new (ws ++ w ∷ [])
-  after true old new ws w is h ok err = put_more old new ws w h is (ok refl)
-  after false old new ws w is h ok err = stopped old new ws w h is (err refl)
-
-  -- after a cut of reducer p was noted
-  noted : (put : Bool) (old new : Option Files) (notes : List (Noted × Cut)) (p : ℕ) (cut : Cut) → HoldsSnaps job records settings tells false start old (map writing_of notes)
-      → (put ≡ true → PutsFile job records settings tells p (said_cut cut) old new) → (put ≡ false → (new ≡ old) ⊎ PutsFile job records settings tells p (said_cut cut) old new)
-      → HoldsSnaps job records settings tells (not put) start new (map writing_of (notes ++ (record { reducer = p; put = put }, cut) ∷ []))
-  noted put old new notes p cut h ok err =
-      let note : Noted × Cut = (record { reducer = p; put = put }, cut) in
-      subst (λ (ws : List Writing). HoldsSnaps job records settings tells (not put) start new ws) (sym (map-append writing_of notes (note ∷ []))) (after put old new (map writing_of notes) (writing_of note) refl h ok err)
-
-  -- by what was answered when its file was to be put
-  notes_after : {A E : Type 0} (result : Result A E) (put failed : Bool) (old new : Option Files) (notes : List (Noted × Cut)) (p : ℕ) (cut : Cut) → put ≡ is_ok result → failed ≡ is_err result
-      → HoldsSnaps job records settings tells false start old (map writing_of notes)
-      → OnOk result (PutsFile job records settings tells p (said_cut cut) old new) → OnErr result ((new ≡ old) ⊎ PutsFile job records settings tells p (said_cut cut) old new)
-      → HoldsSnaps job records settings tells failed start new (map writing_of (notes ++ (record { reducer = p; put = put }, cut) ∷ []))
-  notes_after (Ok x) put failed old new notes p cut is stops h ok err =
-      let P : Bool × Bool → Type 0 = λ x. HoldsSnaps job records settings tells x.0 start new (map writing_of (notes ++ (record { reducer = p; put = x.1 }, cut) ∷ [])) in
-      subst P (λ i. (sym stops i, sym is i)) (noted true old new notes p cut h (λ _. ok) (λ no. absurd (cc)))
-  notes_after (Err e) put failed old new notes p cut is stops h ok err =
-      let P : Bool × Bool → Type 0 = λ x. HoldsSnaps job records settings tells x.0 start new (map writing_of (notes ++ (record { reducer = p; put = x.1 }, cut) ∷ [])) in
-      subst P (λ i. (sym stops i, sym is i)) (noted false old new notes p cut h (λ no. absurd (cc)) (λ _. err))
-
-  -- the writer is as before but for that
-  pub sound_after : {A E : Type 0} (result : Result A E) (put failed was : Bool) (own_job : Meaning) (lens : List ℕ) (own : Settings) (next then : ℕ) (old new : Option Files) (notes all : List (Noted × Cut)) (p : ℕ) (cut : Cut)
-      → IsSound job records settings tells start own_job lens own next old was notes → was ≡ false → then < settings.reducers
-      → all ≡ notes ++ (record { reducer = p; put = put }, cut) ∷ [] → put ≡ is_ok result → failed ≡ is_err result
-      → OnOk result (PutsFile job records settings tells p (said_cut cut) old new) → OnErr result ((new ≡ old) ⊎ PutsFile job records settings tells p (said_cut cut) old new)
-      → IsSound job records settings tells start own_job lens own then new failed all
-  sound_after result put failed was own_job lens own next then old new notes all p cut s well lane all_are is stops ok err =
-      let before = subst (λ (b : Bool). HoldsSnaps job records settings tells b start old (map writing_of notes)) well s.holds in
-      record {
-        of_run = record { job_is = s.of_run.job_is; lens_are = s.of_run.lens_are; reducers = s.of_run.reducers; lane = lane };
-        holds = subst (λ (xs : List (Noted × Cut)). HoldsSnaps job records settings tells failed start new (map writing_of xs)) (sym all_are) (notes_after result put failed old new notes p cut is stops before ok err);
-      }
-
-  -- # What follows
-
-  -- where the spill folders tell, the files are the snapshots
-  are_right : (ws : List Writing) (put : List File) → IsTrue tells → Are ws put → put ≡ map (snap_file job records settings) ws
-  are_right [] [] t are = refl
-  are_right [] (f ∷ put) t are = absurd are
-  are_right (w ∷ ws) [] t are = absurd are
-  are_right (w ∷ ws) (f ∷ put) t are = λ i. (are.0.name_is i, are.0.right t i) ∷ are_right ws put t are.1 i
-
-  pub right : (failed : Bool) (now : Option Files) (ws : List Writing) → Holds failed now ws → IsTrue tells → HoldsRight job records settings failed start now ws
-  right failed now ws h t = record { there = h.there; are_there = h.are_there; held = subst (λ (put : List File). HoldsPut start now put) (are_right h.there h.put t h.files) h.held }
-
--- # Other names
-
-module _ (job : Meaning) (records : List (List ℕ)) (settings : RunSettings) (tells : Bool) where
-  abbrev Others : Option Files → Files → List Writing → Type 0
-  Others start held ws = (from : Files) × (start ≡ Some from) × ((name : List ℕ) → IsNoneOf ws name → files.get held name ≡ files.get from name)
-
-  abbrev IsOther : List ℕ → Writing → Type 0
-  IsOther name w = name ≢ snap_name w.cut.mark w.reducer
-
-  no_files : (held : Option Files) (x : Files) → held ≡ None → held ≡ Some x → ⊥
-  no_files held x none some = cc
-
-  others_put : (start : Option Files) (held : Files) (ws : List Writing) (put : List File) → AreFilesOf job records settings tells ws put → with_files start put ≡ Some held → Others start held ws
-  others_put start held [] [] are e = (held, e, λ name none. refl)
-  others_put start held [] (f ∷ put) are e = absurd are
-  others_put start held (w ∷ ws) [] are e = absurd are
-  others_put None held (w ∷ ws) (f ∷ put) are e = let none = others_put None held ws put are.1 e in absurd (no_files (with_file None f.0 f.1) none.0 refl none.1)
-  others_put (Some from) held (w ∷ ws) (f ∷ put) are e =
-      let rest = others_put (Some (files.insert from f.0 f.1)) held ws put are.1 e in
-      let is : files.insert from f.0 f.1 ≡ rest.0 = cc in (
-        from,
-        refl,
-        λ name none.
-            rest.2 name (All-tail (IsOther name) w ws none)
-            ∙ ap (λ (x : Files). files.get x name) (sym is)
-            ∙ get_other from name f.0 f.1 (λ same. All-head (IsOther name) w ws none (same ∙ are.0.name_is)),
+  put_more : (old new : Option Files) (kept then : List Kept) (ws : List Writing) (w : Writing) → Sound false old kept ws → w.put ≡ true → Puts_ w kept then old new → Sound false new then (ws ++ w ∷ [])
+  put_more old new kept then ws w (h, same) is p =
+      let s = p.makes.snap in let kept_is = same refl in
+      let files : p.files ≡ files_at later settings.reducers (kept_all later h.snaps) s = p.makes.files_are ∙ ap (λ (k : List Kept). files_at later settings.reducers k s) kept_is in (
+        record {
+          snaps = h.snaps ++ s ∷ [];
+          are = are_more ws h.snaps w s h.are p.makes.is;
+          there = h.there ++ p.files;
+          are_there = record {
+            put = All-append IsPut ws (w ∷ []) h.are_there.put (All-cons IsPut w [] is (All-nil IsPut));
+            there_are = (λ i. h.are_there.there_are i ++ files i) ∙ sym (files_of-more later settings.reducers h.snaps s);
+          };
+          held = held_more start old new h.there p.files h.held p.held;
+        },
+        λ _. p.makes.kept_are ∙ ap (λ (k : List Kept). kept_with later k s) kept_is ∙ kept_all-more later h.snaps s,
       )
 
-  only_put : (start now : Option Files) (ws : List Writing) (put : List File) → AreFilesOf job records settings tells ws put → HoldsPut start now put → OnlySnaps start now ws
-  only_put start None ws put are h = tt
-  only_put start (Some held) ws put are h = others_put start held ws put are h
+  stopped : (old new : Option Files) (kept then : List Kept) (ws : List Writing) (w : Writing) → Sound false old kept ws → w.put ≡ false → Leaves w kept old new → Sound true new then (ws ++ w ∷ [])
+  stopped old new kept then ws w (h, same) not_put p =
+      let s = p.snap in let files = files_of later settings.reducers h.snaps in let more = files_at later settings.reducers (kept_all later h.snaps) s in
+      let held : new ≡ with_files old (take p.count more) = p.held ∙ ap (λ (k : List Kept). with_files old (take p.count (files_at later settings.reducers k s))) (same refl) in (
+        record {
+          snaps = h.snaps ++ s ∷ [];
+          are = are_more ws h.snaps w s h.are p.is;
+          there = h.there ++ take p.count more;
+          are_there = record {
+            earlier = ws;
+            last = w;
+            writings_are = refl;
+            put = h.are_there.put;
+            not_put = not_put;
+            before = h.snaps;
+            final = s;
+            snaps_are = refl;
+            count = length files + p.count;
+            enough = omega arith;
+            there_are =
+                ap (λ (fs : Puts). fs ++ take p.count more) h.are_there.there_are
+                ∙ sym (take-append-add files more p.count)
+                ∙ ap (take (length files + p.count)) (sym (files_of-more later settings.reducers h.snaps s));
+          };
+          held = held_more start old new h.there (take p.count more) h.held held;
+        },
+        λ no. absurd (cc),
+      )
 
-  none_before : (name : List ℕ) (ws : List Writing) (w : Writing) → IsNoneOf (ws ++ w ∷ []) name → IsNoneOf ws name
-  none_before name [] w none = All-nil (IsOther name)
-  none_before name (x ∷ ws) w none = All-cons (IsOther name) x ws (All-head (IsOther name) x (ws ++ w ∷ []) none) (none_before name ws w (All-tail (IsOther name) x (ws ++ w ∷ []) none))
+  -- after a cut of reducer p was noted, by what was answered when its files were to be put
+  noted : {A E : Type 0} (result : Result A E) (put failed : Bool) (old new : Option Files) (kept then : List Kept) (notes : List (Noted × Cut)) (p : ℕ) (cut : Cut) → put ≡ is_ok result → failed ≡ is_err result
+      → Sound false old kept (map writing_of notes)
+      → OnOk result (PutsCut job records settings later tells p (said_cut cut) kept then old new) → OnErr result (LeavesCut job records settings later tells p (said_cut cut) kept old new)
+      → Sound failed new then (map writing_of (notes ++ (record { reducer = p; put = put }, cut) ∷ []))
+  noted (Ok x) put failed old new kept then notes p cut is stops h ok err =
+      let note : Noted × Cut = (record { reducer = p; put = true }, cut) in
+      let P : Bool × Bool → Type 0 = λ x. Sound x.0 new then (map writing_of (notes ++ (record { reducer = p; put = x.1 }, cut) ∷ [])) in
+      subst P (λ i. (sym stops i, sym is i)) (subst (λ (ws : List Writing). Sound false new then ws) (sym (map-append writing_of notes (note ∷ []))) (put_more old new kept then (map writing_of notes) (writing_of note) h refl ok))
+  noted (Err e) put failed old new kept then notes p cut is stops h ok err =
+      let note : Noted × Cut = (record { reducer = p; put = false }, cut) in
+      let P : Bool × Bool → Type 0 = λ x. Sound x.0 new then (map writing_of (notes ++ (record { reducer = p; put = x.1 }, cut) ∷ [])) in
+      subst P (λ i. (sym stops i, sym is i)) (subst (λ (ws : List Writing). Sound true new then ws) (sym (map-append writing_of notes (note ∷ []))) (stopped old new kept then (map writing_of notes) (writing_of note) h refl err))
 
-  only_more : (start now : Option Files) (ws : List Writing) (w : Writing) → OnlySnaps start now ws → OnlySnaps start now (ws ++ w ∷ [])
-  only_more start None ws w h = tt
-  only_more start (Some held) ws w h = (h.0, h.1, λ name none. h.2 name (none_before name ws w none))
+  -- the writer is as before but for that
+  pub sound_after : {A E : Type 0} (result : Result A E) (put failed was : Bool) (own_later : List Known) (own_job : Meaning) (lens : List ℕ) (own : Settings) (next after : ℕ) (old new : Option Files) (kept then : List Kept)
+      (notes all : List (Noted × Cut)) (p : ℕ) (cut : Cut)
+      → IsSound job records settings later tells start own_later own_job lens own next old was kept notes → was ≡ false → after < settings.reducers
+      → all ≡ notes ++ (record { reducer = p; put = put }, cut) ∷ [] → put ≡ is_ok result → failed ≡ is_err result
+      → OnOk result (PutsCut job records settings later tells p (said_cut cut) kept then old new) → OnErr result (LeavesCut job records settings later tells p (said_cut cut) kept old new)
+      → IsSound job records settings later tells start own_later own_job lens own after new failed then all
+  sound_after result put failed was own_later own_job lens own next after old new kept then notes all p cut s well lane all_are is stops ok err =
+      let before = subst (λ (b : Bool). Sound b old kept (map writing_of notes)) well (s.holds, s.kept_are) in
+      let now = subst (λ (xs : List (Noted × Cut)). Sound failed new then (map writing_of xs)) (sym all_are) (noted result put failed old new kept then notes p cut is stops before ok err) in
+      record {
+        of_run = record { later_are = s.of_run.later_are; few = s.of_run.few; job_is = s.of_run.job_is; lens_are = s.of_run.lens_are; reducers = s.of_run.reducers; lane = lane };
+        holds = now.0;
+        kept_are = now.1;
+      }
 
-  only_either : (start now : Option Files) (earlier ws there : List Writing) (w : Writing) → ws ≡ earlier ++ w ∷ [] → OnlySnaps start now there → (there ≡ earlier) ⊎ (there ≡ ws) → OnlySnaps start now ws
-  only_either start now earlier ws there w is h (inl e) = subst (λ (xs : List Writing). OnlySnaps start now xs) (sym is) (only_more start now earlier w (subst (λ (xs : List Writing). OnlySnaps start now xs) e h))
-  only_either start now earlier ws there w is h (inr e) = subst (λ (xs : List Writing). OnlySnaps start now xs) e h
-
-  only_there : (failed : Bool) (start now : Option Files) (ws there : List Writing) → AreThere failed ws there → OnlySnaps start now there → OnlySnaps start now ws
-  only_there true start now ws there a h = only_either start now a.earlier ws there a.last a.writings_are h a.there_are
-  only_there false start now ws there a h = subst (λ (xs : List Writing). OnlySnaps start now xs) a.there_are h
-
-  pub only : (failed : Bool) (start now : Option Files) (ws : List Writing) → HoldsSnaps job records settings tells failed start now ws → OnlySnaps start now ws
-  only failed start now ws h = only_there failed start now ws h.there h.are_there (only_put start now h.there h.put h.files h.held)
+  -- at first it holds what it held, and keeps nothing
+  pub new_sound : (own_later : List Known) (own_job : Meaning) (lens : List ℕ) (own : Settings) (now : Option Files) → IfSome now (λ files. start ≡ Some files) → IsOfRun job records settings later own_later own_job lens own 0
+      → IsSound job records settings later tells start own_later own_job lens own 0 now false [] []
+  new_sound own_later own_job lens own now held of_run = record {
+    of_run = of_run;
+    holds = record { snaps = []; are = tt; there = []; are_there = record { put = All-nil IsPut; there_are = refl }; held = held };
+    kept_are = λ _. nothing_kept later;
+  }
+    where
+      nothing_kept : (later : List Meaning) → [] ≡ kept_all later []
+      nothing_kept [] = refl
+      nothing_kept (x ∷ xs) = refl

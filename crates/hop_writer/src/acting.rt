@@ -1,5 +1,6 @@
 //! The writer as an actor, and as a coordinator sees it.
 
+use crate::chain_name::ChainName;
 use crate::writer::Writer;
 use hop_actors::{Actor, Kind, SnapshotWriter, Turn};
 use hop_base::RunName;
@@ -8,8 +9,8 @@ use hop_laws::Job;
 use hop_machine::writer_laws::writer_is_safe;
 use hop_ports::{Folder, Gate};
 
-impl<'a, N: RunName, F: Folder, J: Job, G: Gate, E: Reach<N>> Actor<N, E>
-    for Writer<'a, N, F, J, G> {
+impl<'a, N: RunName, C: ChainName, F: Folder, J: Job, G: Gate, E: Reach<N>> Actor<N, E>
+    for Writer<'a, N, C, F, J, G> {
     ghost use Rattle.hop_actors.specs.Acting.{Writes};
     ghost use Rattle.hop_writer.specs.Writers.{counts_of};
 
@@ -31,8 +32,8 @@ impl<'a, N: RunName, F: Folder, J: Job, G: Gate, E: Reach<N>> Actor<N, E>
     }
 }
 
-impl<'a, N: RunName, F: Folder, J: Job, G: Gate, E: Reach<N>> SnapshotWriter<N, E>
-    for Writer<'a, N, F, J, G> {
+impl<'a, N: RunName, C: ChainName, F: Folder, J: Job, G: Gate, E: Reach<N>> SnapshotWriter<N, E>
+    for Writer<'a, N, C, F, J, G> {
     ghost use Rattle.std.specs.Prelude.{refl};
 
     ghost writer = { λ w. w.writer };

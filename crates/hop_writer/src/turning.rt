@@ -11,8 +11,9 @@ ghost use Rattle.hop_actors.specs.Counting.{TurnCause};
 ghost use Rattle.hop_writer.specs.Snapshots.{IsWhole};
 ghost use Rattle.hop_writer.specs.Writers.{counts_of};
 
+use crate::chain_name::ChainName;
 use crate::notes::Noted;
-use crate::putting::put_snapshot;
+use crate::putting::put_cut;
 use crate::writer::Writer;
 use hop_actors::Turn;
 use hop_base::RunName;
@@ -22,7 +23,7 @@ use hop_inner::steps::take_cut_on;
 use hop_laws::Job;
 use hop_ports::{Folder, Gate, Point};
 
-impl<'a, N: RunName, F: Folder, J: Job, G: Gate> Writer<'a, N, F, J, G> {
+impl<'a, N: RunName, C: ChainName, F: Folder, J: Job, G: Gate> Writer<'a, N, C, F, J, G> {
     // The first of the cut lanes follows the last.
     fn lane_after(&self, p: u8) -> u8
         requires { p < self.now.writer.setup.reducers }
@@ -33,7 +34,7 @@ impl<'a, N: RunName, F: Folder, J: Job, G: Gate> Writer<'a, N, F, J, G> {
         if p + 1 == reducers { 0 } else { p + 1 }
     }
 
-    // The snapshot of the cut of reducer p is put, and the lane after its lane is looked at first from now on.
+    // The files of the cut of reducer p are put, and the lane after its lane is looked at first from now on.
     fn write(&mut self, p: u8, cut: Cut) -> Turn
         requires well { self.old.failed ≡ false }
         requires lane { p < self.old.writer.setup.reducers }
@@ -41,16 +42,18 @@ impl<'a, N: RunName, F: Folder, J: Job, G: Gate> Writer<'a, N, F, J, G> {
         requires fits { CutFitsAt N.job N.records N.settings N.tells p cut }
         ensures wrote { self.new.writer ≡ wrote self.old.writer p (said_cut cut) (not self.new.failed) }
         ensures said { said_turn result ≡ works (not self.new.failed) }
-        ensures cause { TurnCause (Writes self.old.writer) (counts_of (F.seen self.old.folder)) (counts_of (F.seen self.new.folder)) result }
+        ensures cause { TurnCause N.job N.records N.script N.settings (Writes self.old.writer) (counts_of (F.seen self.old.folder)) (counts_of (F.seen self.new.folder)) result }
     {
         let next = self.lane_after(p);
-        let put = put_snapshot::<N, F, J>(
+        let put = put_cut::<N, C, F, J>(
             self.alloc,
             &mut self.folder,
             self.job,
-            self.lens,
+            &self.later,
+            &mut self.kept,
             p,
             self.settings.reducers,
+            self.lens,
             &cut,
         );
         let noted = Noted {
@@ -76,7 +79,7 @@ impl<'a, N: RunName, F: Folder, J: Job, G: Gate> Writer<'a, N, F, J, G> {
         requires safe { Safe parts E.exact (writer_turn self.old.writer) (E.deeds reach.old) }
         ensures runs { Runs E.exact (writer_turn self.old.writer) (E.deeds reach.old) (self.new.writer, said_turn result) (E.deeds reach.new) }
         ensures failed { self.new.failed ≡ has_failed (said_turn result) }
-        ensures cause { TurnCause (Writes self.old.writer) (counts_of (F.seen self.old.folder)) (counts_of (F.seen self.new.folder)) result }
+        ensures cause { TurnCause N.job N.records N.script N.settings (Writes self.old.writer) (counts_of (F.seen self.old.folder)) (counts_of (F.seen self.new.folder)) result }
     {
         let mut p = self.next;
         let mut left = self.settings.reducers;
