@@ -1,6 +1,8 @@
 -- How a run goes on from the turn list to settling, and where a fault ends it.
-use Rattle.std.proofs.Common.{◌≡◌, Bool, List, subst, Result, Err}
+use Rattle.std.proofs.Common.{◌≡◌, ℕ, Bool, List, subst, Result, Err}
 use Rattle.std.specs.Prelude.{IfErr}
+use Rattle.hop_base.specs.Meaning.{Meaning}
+use Rattle.hop_base.specs.Run.{ScriptLines, RunSettings}
 use Rattle.hop_machine.specs.play.Play.{Place, World, Went, Emptying}
 use Rattle.hop_machine.specs.run.AllHome.{IsAtPlace, RanToItsEnd}
 use Rattle.hop_machine.proofs.play.Plays.{went_both}
@@ -33,6 +35,6 @@ pub ended-so : (e : Bool) (a : Place × World) (w : World) (go : Place) (r : Res
 ended-so e a w go r f is h = subst (λ (z : Result (Unit {0}) Fault). IfErr z (Ended e a w)) is h
 
 -- the counts before a call that stopped are those before the calls that went before it
-pub stopped-so : (a a' b : List Counts) (x x' y : Counts) (r : Result (Unit {0}) Fault) (f : Fault) → a ≡ a' → x ≡ x' → Err f ≡ r → CrewStops a b x y f → IfErr r (CrewStops a' b x' y)
-stopped-so a a' b x x' y r f same put is h =
-    subst (λ (z : Result (Unit {0}) Fault). IfErr z (CrewStops a' b x' y)) is (subst (λ (k : List Counts × Counts). CrewStops k.0 b k.1 y f) (λ i. (same i, put i)) h)
+pub stopped-so : (job : Meaning) (records : List (List ℕ)) (script : ScriptLines) (settings : RunSettings) (a a' b : List Counts) (x x' y : Counts) (r : Result (Unit {0}) Fault) (f : Fault) → a ≡ a' → x ≡ x' → Err f ≡ r → CrewStops job records script settings a b x y f → IfErr r (CrewStops job records script settings a' b x' y)
+stopped-so job records script settings a a' b x x' y r f same put is h =
+    subst (λ (z : Result (Unit {0}) Fault). IfErr z (CrewStops job records script settings a' b x' y)) is (subst (λ (k : List Counts × Counts). CrewStops job records script settings k.0 b k.1 y f) (λ i. (same i, put i)) h)

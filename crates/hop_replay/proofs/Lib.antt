@@ -1,5 +1,6 @@
 pub mod ByPlace
 pub mod Counted
+pub mod Naming
 pub mod Delays
 pub mod Drove
 pub mod GoingOn

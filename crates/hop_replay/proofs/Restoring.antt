@@ -4,6 +4,8 @@ use Rattle.std.specs.Prelude.{slice_index_or, IfSome, IfOk, IfErr, OnOk}
 use Rattle.std.specs.List.{slice_get}
 use Rattle.std.proofs.lemmas.Option.{same_Some}
 use Rattle.hop_base.specs.Files.{Files}
+use Rattle.hop_base.specs.Meaning.{Meaning}
+use Rattle.hop_base.specs.Run.{ScriptLines, RunSettings}
 use Rattle.hop_ports.specs.Views.{FolderView}
 use Rattle.hop_actors.specs.Counting.{Counts, PutFailed, GetFailed, StoreCause}
 use Rattle.hop_actors.specs.Spilled.{OnlySpills}
@@ -48,36 +50,36 @@ module _ {A B C D : Type 0} (f : C → D) (g : B → C) (h : A → B) where
 
 -- # Whether they tell
 
-store-tells : (w : ℕ) (a b : Counts) (f : Fault) → StoreCause w a b f → b.tells ≡ a.tells
-store-tells w a b (fault.SpentAt split) h = ap (λ (c : Counts). c.tells) h
-store-tells w a b fault.FolderFailed h = absurd h
-store-tells w a b (fault.SpillFailed worker) h = ⊎_elim (λ (k : PutFailed a b). k.tells) (λ (k : GetFailed a b). k.tells) h.1
-store-tells w a b (fault.SpillDamaged worker part kept found) h = ap (λ (c : Counts). c.tells) h.3
-store-tells w a b (fault.SpillCollides worker part place) h = ap (λ (c : Counts). c.tells) h.2
-store-tells w a b fault.NoMemory h = ap (λ (c : Counts). c.tells) h
+store-tells : (job : Meaning) (records : List (List ℕ)) (script : ScriptLines) (settings : RunSettings) (w : ℕ) (a b : Counts) (f : Fault) → StoreCause job records script settings w a b f → b.tells ≡ a.tells
+store-tells job records script settings w a b (fault.SpentAt split) h = ap (λ (c : Counts). c.tells) h
+store-tells job records script settings w a b fault.FolderFailed h = absurd h
+store-tells job records script settings w a b (fault.SpillFailed worker) h = ⊎_elim (λ (k : PutFailed a b). k.tells) (λ (k : GetFailed a b). k.tells) h.1
+store-tells job records script settings w a b (fault.SpillDamaged worker part kept found) h = ap (λ (c : Counts). c.tells) h.3
+store-tells job records script settings w a b (fault.SpillCollides worker part place) h = ap (λ (c : Counts). c.tells) h.2
+store-tells job records script settings w a b fault.NoMemory h = ap (λ (c : Counts). c.tells) h
 
 same-tells : (cs ds : List Counts) → ds ≡ cs → (w : ℕ) (c d : Counts) → slice_get cs w ≡ Some c → slice_get ds w ≡ Some d → d.tells ≡ c.tells
 same-tells cs ds e w c d gc gd = ap (λ (k : Counts). k.tells) (same_Some d c (sym gd ∙ ap (λ (l : List Counts). slice_get l w) e ∙ gc))
 
-stopped-tells : (cs ds : List Counts) (f : Fault) → StoresStop cs ds f → (w : ℕ) (c d : Counts) → slice_get cs w ≡ Some c → slice_get ds w ≡ Some d → d.tells ≡ c.tells
-stopped-tells cs ds f (inr h) w c d gc gd = same-tells cs ds h.1 w c d gc gd
-stopped-tells cs ds f (inl h) w c d gc gd =
+stopped-tells : (job : Meaning) (records : List (List ℕ)) (script : ScriptLines) (settings : RunSettings) (cs ds : List Counts) (f : Fault) → StoresStop job records script settings cs ds f → (w : ℕ) (c d : Counts) → slice_get cs w ≡ Some c → slice_get ds w ≡ Some d → d.tells ≡ c.tells
+stopped-tells job records script settings cs ds f (inr h) w c d gc gd = same-tells cs ds h.1 w c d gc gd
+stopped-tells job records script settings cs ds f (inl h) w c d gc gd =
     ⊎_elim
     (λ (is : h.worker ≡ w).
     let before : h.before ≡ c = same_Some h.before c (sym h.here ∙ ap (slice_get cs) is ∙ gc) in
     let after : h.after ≡ d = same_Some h.after d (sym (set-here cs h.worker h.after h.before h.here) ∙ ap (λ (l : List Counts). slice_get l h.worker) (sym h.now) ∙ ap (slice_get ds) is ∙ gd) in
-    ap (λ (k : Counts). k.tells) (sym after) ∙ store-tells h.worker h.before h.after f h.cause ∙ ap (λ (k : Counts). k.tells) before)
+    ap (λ (k : Counts). k.tells) (sym after) ∙ store-tells job records script settings h.worker h.before h.after f h.cause ∙ ap (λ (k : Counts). k.tells) before)
     (λ (n : h.worker ≢ w).
     let same : d ≡ c = same_Some d c (sym gd ∙ ap (λ (l : List Counts). slice_get l w) h.now ∙ set-else cs h.worker w h.after (λ e. n (sym e)) ∙ gc) in
     ap (λ (k : Counts). k.tells) same) (same-or-not h.worker w)
 
-crew-tells : (cs ds : List Counts) (x y : Counts) (f : Fault) → CrewStops cs ds x y f → (w : ℕ) (c d : Counts) → slice_get cs w ≡ Some c → slice_get ds w ≡ Some d → d.tells ≡ c.tells
-crew-tells cs ds x y f (inl h) = stopped-tells cs ds f h.0
-crew-tells cs ds x y f (inr h) = same-tells cs ds h.1
+crew-tells : (job : Meaning) (records : List (List ℕ)) (script : ScriptLines) (settings : RunSettings) (cs ds : List Counts) (x y : Counts) (f : Fault) → CrewStops job records script settings cs ds x y f → (w : ℕ) (c d : Counts) → slice_get cs w ≡ Some c → slice_get ds w ≡ Some d → d.tells ≡ c.tells
+crew-tells job records script settings cs ds x y f (inl h) = stopped-tells job records script settings cs ds f h.0
+crew-tells job records script settings cs ds x y f (inr h) = same-tells cs ds h.1
 
-pub keeps-telling : {A : Type 0} (r : Result A Fault) (cs ds : List Counts) (x y : Counts) → OnOk r (ds ≡ cs) → IfErr r (CrewStops cs ds x y) → (w : ℕ) (c d : Counts) → slice_get cs w ≡ Some c → slice_get ds w ≡ Some d → d.tells ≡ c.tells
-keeps-telling (Ok a) cs ds x y ok err = same-tells cs ds ok
-keeps-telling (Err f) cs ds x y ok err = crew-tells cs ds x y f err
+pub keeps-telling : {A : Type 0} (job : Meaning) (records : List (List ℕ)) (script : ScriptLines) (settings : RunSettings) (r : Result A Fault) (cs ds : List Counts) (x y : Counts) → OnOk r (ds ≡ cs) → IfErr r (CrewStops job records script settings cs ds x y) → (w : ℕ) (c d : Counts) → slice_get cs w ≡ Some c → slice_get ds w ≡ Some d → d.tells ≡ c.tells
+keeps-telling job records script settings (Ok a) cs ds x y ok err = same-tells cs ds ok
+keeps-telling job records script settings (Err f) cs ds x y ok err = crew-tells job records script settings cs ds x y f err
 
 -- # Only files of spills
 

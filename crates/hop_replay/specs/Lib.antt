@@ -1,5 +1,6 @@
 pub mod Driven
 pub mod Folders
 pub mod Given
+pub mod Named
 pub mod Replayed
 pub mod Snapshots

@@ -3,6 +3,7 @@ use Rattle.std.specs.Prelude.{◌≡◌, ℕ, ◌≤◌, ◌<◌, Bool, false, L
 use Rattle.hop_actors.specs.declared.fault.Fault.{Fault}
 use Rattle.hop_actors.specs.declared.fault.Fault.TheVariants as fault
 use Rattle.hop_base.specs.Causes.{Rose}
+use Rattle.hop_base.specs.Meaning.{Meaning}
 use Rattle.hop_ending.specs.Cuts.{put_of, writings_of, ArePut}
 use Rattle.hop_ending.specs.Reached.{WroteReached}
 use Rattle.hop_event.specs.Agreement.{history_at}
@@ -34,12 +35,12 @@ pub record WroteUntil (g : Given) (f : Fault) (writings : List Writing) : Type 0
 
 -- # What the job folder holds
 
--- Where a run came to its end: the job folder, where it tells, holds what it held with the snapshots of the cuts of the histories. No count of its faults rose.
-pub record Snapped (g : Given) (tells : Bool) (t : Traced) (a b : FolderView) : Type 0 where
+-- Where a run came to its end: the job folder, where it tells, holds what it held with the snapshots of the cuts of the histories, and in a chain with those of these later jobs. No count of its faults rose.
+pub record Snapped (g : Given) (later : List Meaning) (tells : Bool) (t : Traced) (a b : FolderView) : Type 0 where
   pub writings : List Writing
   pub cuts : AreCutsOf g t writings
   pub reached : WroteReached (setup_given g) writings
-  pub holds : HoldsSnaps g.job g.records g.settings tells false a.held b.held writings
+  pub holds : HoldsSnaps g.job g.records g.settings later tells false a.held b.held writings
   pub told : is_some b.held ≡ is_some a.held
   pub counts : (b.gets ≡ a.gets) × (b.puts ≡ a.puts)
 
@@ -52,13 +53,13 @@ JobFolderFaults a b (fault.SpentAt split) = SameCounts a b
 JobFolderFaults a b fault.FolderFailed = (b.gets ≡ a.gets) × Rose a.puts b.puts
 JobFolderFaults a b fault.NoMemory = SameCounts a b
 
--- Where it stopped: it holds what it held with the snapshots of cuts that were put, each of a mark that was reached, and at most one more of a turn
+-- Where it stopped: it holds what it held with the snapshots of cuts that were put, each of a mark that was reached, and perhaps the first files more of a turn
 -- that failed. Where a split has no attempt left no turn of the writer failed.
-pub record SnappedUntil (g : Given) (tells : Bool) (f : Fault) (a b : FolderView) : Type 0 where
+pub record SnappedUntil (g : Given) (later : List Meaning) (tells : Bool) (f : Fault) (a b : FolderView) : Type 0 where
   pub failed : Bool
   pub writings : List Writing
   pub reached : WroteReached (setup_given g) writings
-  pub holds : HoldsSnaps g.job g.records g.settings tells failed a.held b.held writings
+  pub holds : HoldsSnaps g.job g.records g.settings later tells failed a.held b.held writings
   pub told : is_some b.held ≡ is_some a.held
   pub counts : JobFolderFaults a b f
   pub spent : (split : ℕ) → f ≡ fault.SpentAt split → IsSpent g split writings × (failed ≡ false)

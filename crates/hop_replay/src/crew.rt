@@ -65,7 +65,7 @@ pub(crate) fn run_crew<N: RunName, E: Reach<N>, M: Store<N, E>, W: SnapshotWrite
     ensures only { (w : ℕ) (m : M) → slice_get mappers.new.items w ≡ Some m → OnlySpills (slice_index_or N.spills w None) (M.held m) }
     ensures counts { OnOk result (map M.counts mappers.new.items ≡ map M.counts mappers.old.items) }
     ensures put { OnOk result (W.counts writer.new ≡ W.counts writer.old) }
-    ensures cause { IfErr result (CrewStops (map M.counts mappers.old.items) (map M.counts mappers.new.items) (W.counts writer.old) (W.counts writer.new)) }
+    ensures cause { IfErr result (CrewStops N.job N.records N.script N.settings (map M.counts mappers.old.items) (map M.counts mappers.new.items) (W.counts writer.old) (W.counts writer.new)) }
 {
     let _lens = lens.as_slice();
     know_folders(mappers);

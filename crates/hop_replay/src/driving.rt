@@ -74,7 +74,7 @@ fn drive<
     ensures well { OnOk result (AreWell M.failed M.fits (E.deeds reach.new).ends.board mappers.new.items) }
     ensures counts { OnOk result (map M.counts mappers.new.items ≡ map M.counts mappers.old.items) }
     ensures put { OnOk result (W.counts writer.new ≡ W.counts writer.old) }
-    ensures cause { IfErr result (CrewStops (map M.counts mappers.old.items) (map M.counts mappers.new.items) (W.counts writer.old) (W.counts writer.new)) }
+    ensures cause { IfErr result (CrewStops N.job N.records N.script N.settings (map M.counts mappers.old.items) (map M.counts mappers.new.items) (W.counts writer.old) (W.counts writer.new)) }
 {
     let _lines = turns.turns();
     play(mappers, reducers, mergers, writer, reach, turns)?;
@@ -174,7 +174,7 @@ pub fn run_to_end<
     ensures only { (w : ℕ) (m : M) → slice_get mappers.new.items w ≡ Some m → OnlySpills (slice_index_or N.spills w None) (M.held m) }
     ensures counts { OnOk result (map M.counts mappers.new.items ≡ map M.counts mappers.old.items) }
     ensures put { OnOk result (W.counts writer.new ≡ W.counts writer.old) }
-    ensures cause { IfErr result (CrewStops (map M.counts mappers.old.items) (map M.counts mappers.new.items) (W.counts writer.old) (W.counts writer.new)) }
+    ensures cause { IfErr result (CrewStops N.job N.records N.script N.settings (map M.counts mappers.old.items) (map M.counts mappers.new.items) (W.counts writer.old) (W.counts writer.new)) }
 {
     writers_write_cuts();
     let splits = lens.as_slice().len() as u32;

@@ -69,7 +69,7 @@ returns-in_err-settle-clause-cause g c =
     let k = g.M.Actor.counts in let z = g.W.Actor.counts in let n = c.play in let m = c.settle in
     let fault : Fault = c.in_err-settle.field-0.0 in
     let is : Err fault ≡ c.from_residual-in_err-settle.result = search rules in
-    stopped-so (map k n.new.mappers.items) (map k c.args.mappers.now.items) (map k m.new.mappers.items) (z n.new.writer) (z c.args.writer.now) (z m.new.writer) c.from_residual-in_err-settle.result fault
+    stopped-so g.N.RunName.job g.N.RunName.records g.N.RunName.script g.N.RunName.settings (map k n.new.mappers.items) (map k c.args.mappers.now.items) (map k m.new.mappers.items) (z n.new.writer) (z c.args.writer.now) (z m.new.writer) c.from_residual-in_err-settle.result fault
     c.in_ok-play.ensures.counts c.in_ok-play.ensures.put is c.in_err-settle.ensures.cause
 
 pub returns-clause-ran : goal.returns-clause-ran

@@ -5,4 +5,4 @@ pub returns-clause-none : goal.returns-clause-none
 returns-clause-none c = none-failed
 
 pub returns-clause-stopped : goal.returns-clause-stopped
-returns-clause-stopped c = λ workers before after count f x y h. crew-stopped workers before after count f x y h
+returns-clause-stopped c = λ workers before after count f x y job records script settings h. crew-stopped job records script settings workers before after count f x y h

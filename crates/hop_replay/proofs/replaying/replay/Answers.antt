@@ -8,6 +8,7 @@ use Rattle.hop_replay.specs.Driven.{Traced}
 use Rattle.hop_replay.specs.Folders.{counts_seen, NoneFailed, OnlySpillsPut, Stopped}
 use Rattle.hop_replay.specs.Given.{Given}
 use Rattle.hop_replay.specs.Replayed.{Ran}
+use Rattle.hop_replay.proofs.Naming.{crew-names}
 use Rattle.hop_replay.proofs.RunEnds.{ran-so}
 use Rattle.hop_replay.proofs.Restoring.{alone, err-more, keeps-telling, ok-both, ok-more, ok-with, only-back, only-first, only-same}
 use Rattle.hop_replay.proofs.Snapped.{until-none}
@@ -48,8 +49,8 @@ returns-clause-only g c =
     let after : List Counts = map counts_seen (map seen (map folder_of ms)) in
     subst (λ (l : List g.row.V.Denot). OnlySpillsPut (record { before = map seen olds; after = map seen l })) (sym restored)
     (only-back folder_of seen N.tells N.spills N.settings.workers olds c.requires.folders ms
-    (keeps-telling c.run_over-replayed.result.end before after (counts_seen (g.F.Folder.seen c.args.folder)) (counts_seen (g.F.Folder.seen c.run_over-replayed.result.folder)) (ok-more c.run_over-replayed.result.end (λ e. e ∙ owned) c.run_over-replayed.ensures.counts)
-    (err-more c.run_over-replayed.result.end (λ f h. subst (λ (l : List Counts). CrewStops l after (counts_seen (g.F.Folder.seen c.args.folder)) (counts_seen (g.F.Folder.seen c.run_over-replayed.result.folder)) f) owned h) c.run_over-replayed.ensures.cause)) c.run_over-replayed.ensures.only)
+    (keeps-telling N.job N.records N.script N.settings c.run_over-replayed.result.end before after (counts_seen (g.F.Folder.seen c.args.folder)) (counts_seen (g.F.Folder.seen c.run_over-replayed.result.folder)) (ok-more c.run_over-replayed.result.end (λ e. e ∙ owned) c.run_over-replayed.ensures.counts)
+    (err-more c.run_over-replayed.result.end (λ f h. subst (λ (l : List Counts). CrewStops N.job N.records N.script N.settings l after (counts_seen (g.F.Folder.seen c.args.folder)) (counts_seen (g.F.Folder.seen c.run_over-replayed.result.folder)) f) owned h) c.run_over-replayed.ensures.cause)) c.run_over-replayed.ensures.only)
 
 pub returns-clause-none : goal.returns-clause-none
 returns-clause-none g c =
@@ -69,15 +70,22 @@ returns-clause-stopped g c =
     let many : length (map seen olds) ≡ N.settings.workers = length-map olds seen ∙ c.requires.folders.count in
     err-more c.run_over-replayed.result.end
     (λ f h. subst (λ (l : List g.row.V.Denot). Stopped N.settings.workers (record { before = map seen olds; after = map seen l }) f) (sym restored)
-    (c.counts_tell_of_folders.ensures.stopped N.settings.workers (map seen olds) (map seen (map folder_of ms)) many f x y (subst (λ (l : List Counts). CrewStops l (map counts_seen (map seen (map folder_of ms))) x y f) owned h)))
+    (c.counts_tell_of_folders.ensures.stopped N.settings.workers (map seen olds) (map seen (map folder_of ms)) many f x y N.job N.records N.script N.settings (subst (λ (l : List Counts). CrewStops N.job N.records N.script N.settings l (map counts_seen (map seen (map folder_of ms))) x y f) owned h)))
     c.run_over-replayed.ensures.cause
 
 pub returns-in_default-clause-until : goal.returns-in_default-clause-until
 returns-in_default-clause-until g c =
     let N = g.N.RunName in
-    until-none (record { job = N.job; records = N.records; script = N.script; settings = N.settings; turns = c.args.turns.now }) N.tells (g.F.Folder.seen c.args.folder)
+    until-none (record { job = N.job; records = N.records; script = N.script; settings = N.settings; turns = c.args.turns.now }) g.C.ChainName.later N.tells (g.F.Folder.seen c.args.folder)
 
 pub returns-in_default-new_mappers-clause-until : goal.returns-in_default-new_mappers-clause-until
 returns-in_default-new_mappers-clause-until g c =
     let N = g.N.RunName in
-    until-none (record { job = N.job; records = N.records; script = N.script; settings = N.settings; turns = c.args.turns.now }) N.tells (g.F.Folder.seen c.args.folder)
+    until-none (record { job = N.job; records = N.records; script = N.script; settings = N.settings; turns = c.args.turns.now }) g.C.ChainName.later N.tells (g.F.Folder.seen c.args.folder)
+
+pub returns-clause-named : goal.returns-clause-named
+returns-clause-named g c =
+    let N = g.N.RunName in let seen = g.V.Folder.seen in let F = g.F.Folder.seen in
+    let G : Given = record { job = N.job; records = N.records; script = N.script; settings = N.settings; turns = c.args.turns.now } in
+    let before = map counts_seen (map seen (map folder_of c.in-Ok-new_mappers.mappers.items)) in let after = map counts_seen (map seen (map folder_of c.run_over-replayed.new.mappers.items)) in
+    err-more c.run_over-replayed.result.end (λ f h. crew-names G before after (counts_seen (F c.args.folder)) (counts_seen (F c.run_over-replayed.result.folder)) f h) c.run_over-replayed.ensures.cause

@@ -17,16 +17,16 @@ returns-clause-counts g c =
 
 pub returns-clause-cause : goal.returns-clause-cause
 returns-clause-cause g c =
-    let seen = g.V.Folder.seen in let olds = c.args.mappers.now.items in let news = c.run_with_snapshots.new.mappers.items in
+    let N = g.N.RunName in let seen = g.V.Folder.seen in let olds = c.args.mappers.now.items in let news = c.run_with_snapshots.new.mappers.items in
     err-more c.run_with_snapshots.result.end
     (λ f stop.
-    subst (λ (k : List Counts × List Counts). CrewStops k.0 k.1 (counts_seen (g.F.Folder.seen c.args.folder)) (counts_seen (g.F.Folder.seen c.run_with_snapshots.result.folder)) f) (λ i. (sym (map-three counts_seen seen folder_of olds) i, sym (map-three counts_seen seen folder_of news) i)) stop)
+    subst (λ (k : List Counts × List Counts). CrewStops N.job N.records N.script N.settings k.0 k.1 (counts_seen (g.F.Folder.seen c.args.folder)) (counts_seen (g.F.Folder.seen c.run_with_snapshots.result.folder)) f) (λ i. (sym (map-three counts_seen seen folder_of olds) i, sym (map-three counts_seen seen folder_of news) i)) stop)
     c.run_with_snapshots.ensures.cause
 
 pub returns-in_default-clause-until : goal.returns-in_default-clause-until
 returns-in_default-clause-until g c =
     let N = g.N.RunName in
-    until-none (record { job = N.job; records = N.records; script = N.script; settings = N.settings; turns = c.args.turns.now }) N.tells (g.F.Folder.seen c.args.folder)
+    until-none (record { job = N.job; records = N.records; script = N.script; settings = N.settings; turns = c.args.turns.now }) g.C.ChainName.later N.tells (g.F.Folder.seen c.args.folder)
 
 pub returns-in_default-clause-cause : goal.returns-in_default-clause-cause
 returns-in_default-clause-cause g c = inl (inr (refl, refl), refl)

@@ -25,8 +25,8 @@ returns-in-Ok-clause-snapped g c =
     ok-with c.run_crew-end.result
     (λ end counts wrote.
     let t : Traced = record { begun = end.begun.items; histories = map (λ h. h.events) end.histories.items } in
-    subst (λ (k : g.row.F.Denot × g.row.F.Denot). Snapped G N.tells t (seen k.0) (seen k.1)) (λ i. (before i, sym c.into_folder.ensures i))
-    (snapped-so G N.tells t W.failed N.folder (seen c.in-Ok.writer.folder) (seen W.folder) W.writer.writings same c.known.ensures.holds counts wrote))
+    subst (λ (k : g.row.F.Denot × g.row.F.Denot). Snapped G g.C.ChainName.later N.tells t (seen k.0) (seen k.1)) (λ i. (before i, sym c.into_folder.ensures i))
+    (snapped-so G g.C.ChainName.later N.tells t W.failed N.folder (seen c.in-Ok.writer.folder) (seen W.folder) W.writer.writings same c.known.ensures counts wrote))
     c.run_crew-end.ensures.put c.run_crew-end.ensures.wrote
 
 pub returns-in-Ok-clause-until : goal.returns-in-Ok-clause-until
@@ -37,24 +37,24 @@ returns-in-Ok-clause-until g c =
     let same : N.folder ≡ (seen c.in-Ok.writer.folder).held = c.requires.folder ∙ ap (λ (f : g.row.F.Denot). (seen f).held) (sym before) in
     err-with c.run_crew-end.result
     (λ f stop wrote.
-    subst (λ (k : g.row.F.Denot × g.row.F.Denot). SnappedUntil G N.tells f (seen k.0) (seen k.1)) (λ i. (before i, sym c.into_folder.ensures i))
-    (until-so G N.tells f W.failed N.folder (seen c.in-Ok.writer.folder) (seen W.folder) W.writer.writings _ _ same c.known.ensures.holds stop wrote))
+    subst (λ (k : g.row.F.Denot × g.row.F.Denot). SnappedUntil G g.C.ChainName.later N.tells f (seen k.0) (seen k.1)) (λ i. (before i, sym c.into_folder.ensures i))
+    (until-so G g.C.ChainName.later N.tells f W.failed N.folder (seen c.in-Ok.writer.folder) (seen W.folder) W.writer.writings _ _ same c.known.ensures stop wrote))
     c.run_crew-end.ensures.cause c.run_crew-end.ensures.until
 
 pub returns-in-Ok-clause-cause : goal.returns-in-Ok-clause-cause
 returns-in-Ok-clause-cause g c =
-    let seen = g.F.Folder.seen in let k = g.M.Actor.counts in
+    let N = g.N.RunName in let seen = g.F.Folder.seen in let k = g.M.Actor.counts in
     let before : c.in-Ok.writer.folder ≡ c.args.folder = ap (λ (w : WriterValue g.row.F.Denot). w.folder) c.in-Ok.ensures.made in
     err-more c.run_crew-end.result
     (λ f stop.
-    subst (λ (p : g.row.F.Denot × g.row.F.Denot). CrewStops (map k c.args.mappers.now.items) (map k c.run_crew-end.new.mappers.items) (counts_seen (seen p.0)) (counts_seen (seen p.1)) f) (λ i. (before i, sym c.into_folder.ensures i)) stop)
+    subst (λ (p : g.row.F.Denot × g.row.F.Denot). CrewStops N.job N.records N.script N.settings (map k c.args.mappers.now.items) (map k c.run_crew-end.new.mappers.items) (counts_seen (seen p.0)) (counts_seen (seen p.1)) f) (λ i. (before i, sym c.into_folder.ensures i)) stop)
     c.run_crew-end.ensures.cause
 
 pub returns-in-Err-clause-until : goal.returns-in-Err-clause-until
 returns-in-Err-clause-until g c =
     let N = g.N.RunName in let seen = g.F.Folder.seen in
     let G : Given = record { job = N.job; records = N.records; script = N.script; settings = N.settings; turns = c.args.turns.now } in
-    subst (λ (f : g.row.F.Denot). SnappedUntil G N.tells Rattle.hop_actors.specs.declared.fault.Fault.TheVariants.NoMemory (seen c.args.folder) (seen f)) (sym c.in-Err.ensures.back) (until-none G N.tells (seen c.args.folder))
+    subst (λ (f : g.row.F.Denot). SnappedUntil G g.C.ChainName.later N.tells Rattle.hop_actors.specs.declared.fault.Fault.TheVariants.NoMemory (seen c.args.folder) (seen f)) (sym c.in-Err.ensures.back) (until-none G g.C.ChainName.later N.tells (seen c.args.folder))
 
 pub returns-in-Err-clause-only : goal.returns-in-Err-clause-only
 returns-in-Err-clause-only g c =
