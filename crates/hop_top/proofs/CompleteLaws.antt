@@ -7,6 +7,7 @@ use Rattle.std.specs.FinMap as map
 use Rattle.std.proofs.lemmas.Option.{same_Some, slice_get-get_or}
 use Rattle.hop_base.specs.Causes.{Rose}
 use Rattle.hop_base.specs.Files.{Files}
+use Rattle.hop_base.specs.Meaning.{Meaning}
 use Rattle.hop_base.specs.Run.{ScriptLines, fails_at}
 use Rattle.hop_event.specs.Failing.{IsDoomed, tries}
 use Rattle.hop_ending.specs.Doomed.{IsDoomedSplit}
@@ -16,7 +17,7 @@ use Rattle.hop_replay.specs.Folders.{Spilling}
 use Rattle.hop_replay.specs.Given.{Given, PlaysTo, setup_given}
 use Rattle.hop_machine.specs.play.Play.{Machine, NoneLeft, Over, Place}
 use Rattle.hop_machine.proofs.play.Plays.{Plays-one}
-use Rattle.hop_words.specs.Options.{Asked, AskedOptions, block, run, replay}
+use Rattle.hop_words.specs.Options.{Asked, AskedOptions, block, chain, run, replay}
 use Rattle.hop_top.specs.Complete.{PlayIsSpent, SomeDoomed}
 use Rattle.hop_top.specs.Puts.{Puts, Work, with_files}
 use Rattle.hop_top.specs.Reading.{AreReadable, FirstUnread, IsAbsent, IsLong, IsReadable, Wanted, bytes_of, reads_of}
@@ -121,8 +122,8 @@ module _ (old new : FolderView) (out_old out_new : SinkView) (s : Spilling) (opt
       let at = spends_at old.held files options s split (λ early. new.held ≡ with_files old.held early) held meets.0 in spent split at.0 at.1 refl
   complete outcome.FolderFailed meets accepted goes gets puts faults = absurd (puts meets.0)
   complete (outcome.SpillFailed worker) meets accepted goes gets puts faults = absurd (goes.unfailed worker refl meets.runs)
-  complete (outcome.SpillDamaged worker at kept found) meets accepted goes gets puts faults = absurd (goes.undamaged worker at kept found refl meets.runs)
-  complete (outcome.SpillCollides worker at place) meets accepted goes gets puts faults = absurd (goes.uncollided worker at place refl meets.runs)
+  complete (outcome.SpillDamaged worker at kept found) meets accepted goes gets puts faults = absurd (goes.undamaged worker at kept found refl meets.0.runs)
+  complete (outcome.SpillCollides worker at place) meets accepted goes gets puts faults = absurd (goes.uncollided worker at place refl meets.0.runs)
   complete outcome.SayFailed meets accepted goes gets puts faults = absurd (faults meets.0)
 
 -- # What stands in a run's way
@@ -206,18 +207,21 @@ goes options s answer left told quiet = of options.command refl
         record { unfailed = λ w e runs. none runs; undamaged = λ w part was found e runs. none runs; uncollided = λ w part place e runs. none runs }
     of (run job input) is = run-so (subst (λ (c : Asked). CommandLeaves c options.settings.workers s answer) is left)
     of (replay job input) is = run-so (subst (λ (c : Asked). CommandLeaves c options.settings.workers s answer) is left)
+    of (chain jobs input) is = run-so (subst (λ (c : Asked). CommandLeaves c options.settings.workers s answer) is left)
 
 -- a split that was spent is doomed, and the play ends so
-doomed-so : (g : Given) (tells : Bool) (split : ℕ) (early : Puts) → SpentWith g tells split early → IsDoomedSplit (setup_given g) split
-doomed-so g tells split early h = record { is_split = h.spent.is_split; doomed = h.spent.doomed }
+doomed-so : (g : Given) (later : List Meaning) (tells : Bool) (split : ℕ) (early : Puts) → SpentWith g later tells split early → IsDoomedSplit (setup_given g) split
+doomed-so g later tells split early h = record { is_split = h.spent.is_split; doomed = h.spent.doomed }
 
 pub spends-doomed : (options : AskedOptions) (s : Spilling) (files : Files) (split : ℕ) (early : Puts) → Spends options s files split early → SomeDoomed options.command options files
 spends-doomed options s files split early spends = of options.command refl
   where
     of : (c : Asked) → options.command ≡ c → SomeDoomed options.command options files
     of (block job input) is = absurd (subst (λ (c : Asked). CommandSpends c options s files split early) is spends)
-    of (run job input) is = subst (λ (c : Asked). SomeDoomed c options files) (sym is) (split, doomed-so (run_given options job input files) _ split early (subst (λ (c : Asked). CommandSpends c options s files split early) is spends))
-    of (replay job input) is = subst (λ (c : Asked). SomeDoomed c options files) (sym is) (split, doomed-so (run_given options job input files) _ split early (subst (λ (c : Asked). CommandSpends c options s files split early) is spends))
+    of (run job input) is = subst (λ (c : Asked). SomeDoomed c options files) (sym is) (split, doomed-so (run_given options job input files) _ _ split early (subst (λ (c : Asked). CommandSpends c options s files split early) is spends))
+    of (replay job input) is = subst (λ (c : Asked). SomeDoomed c options files) (sym is) (split, doomed-so (run_given options job input files) _ _ split early (subst (λ (c : Asked). CommandSpends c options s files split early) is spends))
+    of (chain [] input) is = absurd (subst (λ (c : Asked). CommandSpends c options s files split early) is spends)
+    of (chain (job ∷ later) input) is = subst (λ (c : Asked). SomeDoomed c options files) (sym is) (split, doomed-so (run_given options job input files) _ _ split early (subst (λ (c : Asked). CommandSpends c options s files split early) is spends))
 
 -- # A play ends once
 
@@ -234,19 +238,21 @@ play-one g a b p q = (Plays-one (setup_given g) g.settings.backup _ a b p q).1
 pub spends-it : (options : AskedOptions) (s : Spilling) (files : Files) (split other : ℕ) (early : Puts) → PlayIsSpent options.command options files split → Spends options s files other early → other ≡ split
 spends-it options s files split other early plays spends = of options.command refl
   where
-    at : (g : Given) → (end : Machine) × PlaysTo g (NoneLeft split) end → (tells : Bool) → SpentWith g tells other early → other ≡ split
-    at g p tells h = same-split other split h.spent.end p.0 (play-one g (NoneLeft other, h.spent.end) (NoneLeft split, p.0) h.spent.play p.1)
+    at : (g : Given) → (end : Machine) × PlaysTo g (NoneLeft split) end → (later : List Meaning) (tells : Bool) → SpentWith g later tells other early → other ≡ split
+    at g p later tells h = same-split other split h.spent.end p.0 (play-one g (NoneLeft other, h.spent.end) (NoneLeft split, p.0) h.spent.play p.1)
 
     of : (c : Asked) → options.command ≡ c → other ≡ split
     of (block job input) is = absurd (subst (λ (c : Asked). CommandSpends c options s files other early) is spends)
-    of (run job input) is = at (run_given options job input files) (subst (λ (c : Asked). PlayIsSpent c options files split) is plays) _ (subst (λ (c : Asked). CommandSpends c options s files other early) is spends)
-    of (replay job input) is = at (run_given options job input files) (subst (λ (c : Asked). PlayIsSpent c options files split) is plays) _ (subst (λ (c : Asked). CommandSpends c options s files other early) is spends)
+    of (run job input) is = at (run_given options job input files) (subst (λ (c : Asked). PlayIsSpent c options files split) is plays) _ _ (subst (λ (c : Asked). CommandSpends c options s files other early) is spends)
+    of (replay job input) is = at (run_given options job input files) (subst (λ (c : Asked). PlayIsSpent c options files split) is plays) _ _ (subst (λ (c : Asked). CommandSpends c options s files other early) is spends)
+    of (chain [] input) is = absurd (subst (λ (c : Asked). CommandSpends c options s files other early) is spends)
+    of (chain (job ∷ later) input) is = at (run_given options job input files) (subst (λ (c : Asked). PlayIsSpent c options files split) is plays) _ _ (subst (λ (c : Asked). CommandSpends c options s files other early) is spends)
 
 -- # What is never done
 
 -- a run with a doomed split has no work
-no-work : (g : Given) (s : Spilling) (work : Work) (split : ℕ) → IsDoomedSplit (setup_given g) split → RunWorks g s work → ⊥
-no-work g s work split doomed works =
+no-work : (g : Given) (later : List Meaning) (s : Spilling) (work : Work) (split : ℕ) → IsDoomedSplit (setup_given g) split → RunWorks g later s work → ⊥
+no-work g later s work split doomed works =
     tried (tries g.script g.settings.attempts split) (slice_index works.t.begun split) (no-tries g.script g.settings.attempts split doomed.doomed) (works.reported.ran.tries split doomed.is_split)
 
 no-works : (options : AskedOptions) (s : Spilling) (files : Files) (work : Work) → SomeDoomed options.command options files → Works options s files work → ⊥
@@ -255,9 +261,12 @@ no-works options s files work doomed works = of options.command refl
     of : (c : Asked) → options.command ≡ c → ⊥
     of (block job input) is = subst (λ (c : Asked). SomeDoomed c options files) is doomed
     of (run job input) is = let d = subst (λ (c : Asked). SomeDoomed c options files) is doomed in
-        no-work (run_given options job input files) s work d.0 d.1 (subst (λ (c : Asked). CommandWorks c options s files work) is works)
+        no-work (run_given options job input files) _ s work d.0 d.1 (subst (λ (c : Asked). CommandWorks c options s files work) is works)
     of (replay job input) is = let d = subst (λ (c : Asked). SomeDoomed c options files) is doomed in
-        no-work (run_given options job input files) s work d.0 d.1 (subst (λ (c : Asked). CommandWorks c options s files work) is works)
+        no-work (run_given options job input files) _ s work d.0 d.1 (subst (λ (c : Asked). CommandWorks c options s files work) is works)
+    of (chain [] input) is = subst (λ (c : Asked). SomeDoomed c options files) is doomed
+    of (chain (job ∷ later) input) is = let d = subst (λ (c : Asked). SomeDoomed c options files) is doomed in
+        no-work (run_given options job input files) _ s work d.0 d.1 (subst (λ (c : Asked). CommandWorks c options s files work) is works)
 
 finished-at : (held : Option Files) (files : Files) (options : AskedOptions) (s : Spilling) (P : Work → Type 0) → held ≡ Some files
     → IfSome held (λ fs. Accepted options fs × ((work : Work) × Works options s fs work × P work)) → (work : Work) × Works options s files work
@@ -272,16 +281,18 @@ never-done old new out_old out_new s options files answer held meets doomed is =
     no-works options s files w.0 doomed w.1
 
 -- a work has a play that came to its end
-no-spent-work : (g : Given) (s : Spilling) (work : Work) (split : ℕ) → (end : Machine) × PlaysTo g (NoneLeft split) end → RunWorks g s work → ⊥
-no-spent-work g s work split p works = never-over split works.reported.ran.end p.0 (play-one g (Over, works.reported.ran.end) (NoneLeft split, p.0) works.reported.ran.play.played p.1)
+no-spent-work : (g : Given) (later : List Meaning) (s : Spilling) (work : Work) (split : ℕ) → (end : Machine) × PlaysTo g (NoneLeft split) end → RunWorks g later s work → ⊥
+no-spent-work g later s work split p works = never-over split works.reported.ran.end p.0 (play-one g (Over, works.reported.ran.end) (NoneLeft split, p.0) works.reported.ran.play.played p.1)
 
 no-spent-works : (options : AskedOptions) (s : Spilling) (files : Files) (work : Work) (split : ℕ) → PlayIsSpent options.command options files split → Works options s files work → ⊥
 no-spent-works options s files work split plays works = of options.command refl
   where
     of : (c : Asked) → options.command ≡ c → ⊥
     of (block job input) is = subst (λ (c : Asked). PlayIsSpent c options files split) is plays
-    of (run job input) is = no-spent-work (run_given options job input files) s work split (subst (λ (c : Asked). PlayIsSpent c options files split) is plays) (subst (λ (c : Asked). CommandWorks c options s files work) is works)
-    of (replay job input) is = no-spent-work (run_given options job input files) s work split (subst (λ (c : Asked). PlayIsSpent c options files split) is plays) (subst (λ (c : Asked). CommandWorks c options s files work) is works)
+    of (run job input) is = no-spent-work (run_given options job input files) _ s work split (subst (λ (c : Asked). PlayIsSpent c options files split) is plays) (subst (λ (c : Asked). CommandWorks c options s files work) is works)
+    of (replay job input) is = no-spent-work (run_given options job input files) _ s work split (subst (λ (c : Asked). PlayIsSpent c options files split) is plays) (subst (λ (c : Asked). CommandWorks c options s files work) is works)
+    of (chain [] input) is = subst (λ (c : Asked). PlayIsSpent c options files split) is plays
+    of (chain (job ∷ later) input) is = no-spent-work (run_given options job input files) _ s work split (subst (λ (c : Asked). PlayIsSpent c options files split) is plays) (subst (λ (c : Asked). CommandWorks c options s files work) is works)
 
 pub never-spent : (old new : FolderView) (out_old out_new : SinkView) (s : Spilling) (options : AskedOptions) (files : Files) (split : ℕ) (answer : Outcome) → old.held ≡ Some files
     → MeetsOptions old new out_old out_new s options answer → PlayIsSpent options.command options files split → answer ≡ outcome.Done → ⊥

@@ -1,7 +1,6 @@
 -- What a run's outcome says of the whole call.
 use Rattle.std.proofs.Common.{◌≡◌, ℕ, Bool, List, [], ◌∷◌, inl, inr, Option, None, Some, refl, sym, ap, subst, ◌∙◌, arith}
 use Rattle.std.specs.Option.{IfSome}
-use Rattle.std.specs.List.{AllByRecursion}
 use Rattle.hop_base.specs.Causes.{Rose}
 use Rattle.hop_base.specs.Files.{Files}
 use Rattle.hop_base.specs.Meaning.{Meaning}
@@ -11,12 +10,13 @@ use Rattle.hop_replay.specs.Driven.{Traced}
 use Rattle.hop_replay.specs.Folders.{SameCounts, Spilling}
 use Rattle.hop_replay.specs.Given.{Given}
 use Rattle.hop_replay.specs.Replayed.{Ran}
-use Rattle.hop_words.specs.Options.{Asked, AskedOptions, run, replay, command_of, options_of}
+use Rattle.hop_words.specs.Options.{Asked, AskedOptions, run, replay, chain, command_of, options_of}
 use Rattle.hop_words.specs.declared.options.Command.{Command}
-use Rattle.hop_words.specs.declared.options.Command.TheVariants.{Block, Run, Replay}
+use Rattle.hop_words.specs.declared.options.Command.TheVariants.{Block, Chain, Run, Replay}
 use Rattle.hop_words.specs.declared.options.Options.{Options}
 use Rattle.hop_top.specs.Ends.{JobAnswers, RunEnds, RunSnaps, RunStops}
-use Rattle.hop_top.specs.Meets.{MeetsOptions, WhereAccepted, Untouched, Early, Broken, Stopped}
+use Rattle.hop_top.specs.Meets.{MeetsOptions, WhereAccepted, Untouched, Early, Broken, NamesIts, Stopped}
+use Rattle.hop_top.specs.Named.{CommandNames, RunNames}
 use Rattle.hop_top.specs.Plans.{IsRefusal, given_by, run_refusal}
 use Rattle.hop_top.specs.Puts.{HandsOut, Puts, Work, with_files}
 use Rattle.hop_top.specs.Snaps.{MaySnap, SpentWith}
@@ -29,44 +29,59 @@ use Rattle.hop_top.specs.declared.outcome.Outcome.{Outcome}
 use Rattle.hop_top.specs.declared.outcome.Outcome.TheVariants as outcome
 use Rattle.hop_top.specs.declared.outcome.Refusal.TheVariants as refusal
 
--- # What the two commands have in common
+-- # What the three commands have in common
 
--- the command is a run of this job over this input
-pub record RunsJob (options : AskedOptions) (job : Meaning) (input : List ℕ) : Type 0 where
+-- the command is a run of this job over this input, with these later jobs
+pub record RunsJob (options : AskedOptions) (job : Meaning) (later : List Meaning) (input : List ℕ) : Type 0 where
   pub reads : reads_of options ≡ run_reads input options.script options.turns
   pub refuses : (files : Files) → refusal_of options files ≡ run_refusal options.settings (run_texts options input files)
-  pub works : (s : Spilling) (files : Files) (work : Work) → RunWorks (run_given options job input files) s work → Works options s files work
-  pub spends : (s : Spilling) (files : Files) (split : ℕ) (early : Puts) → SpentWith (run_given options job input files) (all_tell options.settings.workers s.before) split early → Spends options s files split early
-  pub snaps : (s : Spilling) (files : Files) (file : List ℕ × List ℕ) → MaySnap (run_given options job input files) (all_tell options.settings.workers s.before) file → MayPutEarly options.command options s files file
+  pub works : (s : Spilling) (files : Files) (work : Work) → RunWorks (run_given options job input files) later s work → Works options s files work
+  pub spends : (s : Spilling) (files : Files) (split : ℕ) (early : Puts) → SpentWith (run_given options job input files) later (all_tell options.settings.workers s.before) split early → Spends options s files split early
+  pub snaps : (s : Spilling) (files : Files) (early : Puts) → MaySnap (run_given options job input files) later (all_tell options.settings.workers s.before) early → MayPutEarly options.command options s files early
+  pub names : (files : Files) (answer : Outcome) → RunNames (run_given options job input files) answer → CommandNames options.command options files answer
   pub runs : IsRun options.command
 
-runs-so : (options : AskedOptions) (job : Meaning) (input : List ℕ) → options.command ≡ run job input → RunsJob options job input
+runs-so : (options : AskedOptions) (job : Meaning) (input : List ℕ) → options.command ≡ run job input → RunsJob options job [] input
 runs-so options job input is = record {
   reads = ap (λ (c : Asked). command_reads c options.script options.turns) is;
   refuses = λ files. ap (λ (c : Asked). command_refusal c options files) is;
   works = λ s files work h. subst (λ (c : Asked). CommandWorks c options s files work) (sym is) h;
   spends = λ s files split early h. subst (λ (c : Asked). CommandSpends c options s files split early) (sym is) h;
-  snaps = λ s files file h. subst (λ (c : Asked). MayPutEarly c options s files file) (sym is) h;
+  snaps = λ s files early h. subst (λ (c : Asked). MayPutEarly c options s files early) (sym is) h;
+  names = λ files answer h. subst (λ (c : Asked). CommandNames c options files answer) (sym is) h;
   runs = subst IsRun (sym is) tt;
 }
 
-replays-so : (options : AskedOptions) (job : Meaning) (input : List ℕ) → options.command ≡ replay job input → RunsJob options job input
+replays-so : (options : AskedOptions) (job : Meaning) (input : List ℕ) → options.command ≡ replay job input → RunsJob options job [] input
 replays-so options job input is = record {
   reads = ap (λ (c : Asked). command_reads c options.script options.turns) is;
   refuses = λ files. ap (λ (c : Asked). command_refusal c options files) is;
   works = λ s files work h. subst (λ (c : Asked). CommandWorks c options s files work) (sym is) h;
   spends = λ s files split early h. subst (λ (c : Asked). CommandSpends c options s files split early) (sym is) h;
-  snaps = λ s files file h. subst (λ (c : Asked). MayPutEarly c options s files file) (sym is) h;
+  snaps = λ s files early h. subst (λ (c : Asked). MayPutEarly c options s files early) (sym is) h;
+  names = λ files answer h. subst (λ (c : Asked). CommandNames c options files answer) (sym is) h;
   runs = subst IsRun (sym is) tt;
 }
 
-pub runs-job : (o : Options) (job : Meaning) (input : List ℕ) → AsksRun o.command job input → RunsJob (options_of o) job input
-runs-job o job input asks = of o.command refl asks
+chains-so : (options : AskedOptions) (job : Meaning) (later : List Meaning) (input : List ℕ) → options.command ≡ chain (job ∷ later) input → RunsJob options job later input
+chains-so options job later input is = record {
+  reads = ap (λ (c : Asked). command_reads c options.script options.turns) is;
+  refuses = λ files. ap (λ (c : Asked). command_refusal c options files) is;
+  works = λ s files work h. subst (λ (c : Asked). CommandWorks c options s files work) (sym is) h;
+  spends = λ s files split early h. subst (λ (c : Asked). CommandSpends c options s files split early) (sym is) h;
+  snaps = λ s files early h. subst (λ (c : Asked). MayPutEarly c options s files early) (sym is) h;
+  names = λ files answer h. subst (λ (c : Asked). CommandNames c options files answer) (sym is) h;
+  runs = subst IsRun (sym is) tt;
+}
+
+pub runs-job : (o : Options) (job : Meaning) (later : List Meaning) (input : List ℕ) → AsksRun o.command job later input → RunsJob (options_of o) job later input
+runs-job o job later input asks = of o.command refl asks
   where
-    of : (c : Command) → o.command ≡ c → AsksRun c job input → RunsJob (options_of o) job input
+    of : (c : Command) → o.command ≡ c → AsksRun c job later input → RunsJob (options_of o) job later input
     of (Block j name) is h = absurd h
-    of (Run j name) is h = runs-so (options_of o) job input (ap command_of is ∙ (λ i. run (h.0 i) (h.1 i)))
-    of (Replay j name) is h = replays-so (options_of o) job input (ap command_of is ∙ (λ i. replay (h.0 i) (h.1 i)))
+    of (Run j name) is h = subst (λ (l : List Meaning). RunsJob (options_of o) job l input) (sym h.1) (runs-so (options_of o) job input (ap command_of is ∙ (λ i. run (h.0 i) (h.2 i))))
+    of (Replay j name) is h = subst (λ (l : List Meaning). RunsJob (options_of o) job l input) (sym h.1) (replays-so (options_of o) job input (ap command_of is ∙ (λ i. replay (h.0 i) (h.2 i))))
+    of (Chain js name) is h = chains-so (options_of o) job later input (ap command_of is ∙ (λ i. chain (h.0 i) (h.1 i)))
 
 -- # Where the folder tells
 
@@ -74,7 +89,7 @@ if-some : {A : Type 0} (o : Option A) (P Q : A → Type 0) → ((a : A) → P a 
 if-some None P Q more holds = holds
 if-some (Some a) P Q more holds = more a holds
 
-module _ (options : AskedOptions) (job : Meaning) (input : List ℕ) (asks : RunsJob options job input) (old new : FolderView) (out_old out_new : SinkView) (s : Spilling) where
+module _ (options : AskedOptions) (job : Meaning) (later : List Meaning) (input : List ℕ) (asks : RunsJob options job later input) (old new : FolderView) (out_old out_new : SinkView) (s : Spilling) where
   -- # What was read
 
   abbrev pub Meets : Outcome → Type 0
@@ -142,34 +157,35 @@ module _ (options : AskedOptions) (job : Meaning) (input : List ℕ) (asks : Run
       abbrev told : Bool
       told = all_tell options.settings.workers s.before
 
-      -- the snapshots that were put are some that may be put
-      may-put : (files : Files) (put : Puts) → g ≡ run_given options job input files → AllByRecursion (MaySnap g told) put → AllByRecursion (MayPutEarly options.command options s files) put
-      may-put files [] e may = tt
-      may-put files (file ∷ put) e may = (asks.snaps s files file (subst (λ (q : Given). MaySnap q told file) e may.0), may-put files put e may.1)
+      -- the files that were put are some that may be put
+      early : (put : Puts) → MaySnap g later told put → new.held ≡ with_files old.held put → Early old new out_old out_new s options
+      early put may held = where-accepted (λ files. (early : Puts) × MayPutEarly options.command options s files early × (new.held ≡ with_files old.held early))
+          (λ files e. (put, asks.snaps s files put (subst (λ (q : Given). MaySnap q later told put) e may), held))
 
-      early : (put : Puts) → AllByRecursion (MaySnap g told) put → new.held ≡ with_files old.held put → Early old new out_old out_new s options
-      early put may held = where-accepted (λ files. (early : Puts) × AllByRecursion (MayPutEarly options.command options s files) early × (new.held ≡ with_files old.held early)) (λ files e. (put, may-put files put e may, held))
+      -- the spill that is named is one of the command's run
+      named : (answer : Outcome) → RunNames g answer → NamesIts old new out_old out_new s options answer
+      named answer h = where-accepted (λ files. CommandNames options.command options files answer) (λ files e. asks.names files answer (subst (λ (q : Given). RunNames q answer) e h))
 
       -- why it stopped, and what was put before
       module _ (middle : FolderView) (only : OnlyRead old middle) (quiet : out_new ≡ out_old) where
         held-then : (put : Puts) → new.held ≡ with_files middle.held put → new.held ≡ with_files old.held put
         held-then put h = h ∙ ap (λ (o : Option Files). with_files o put) only.held
 
-        broken : (put : Puts) → AllByRecursion (MaySnap g told) put → new.held ≡ with_files middle.held put → Broken old new out_old out_new s options
+        broken : (put : Puts) → MaySnap g later told put → new.held ≡ with_files middle.held put → Broken old new out_old out_new s options
         broken put may held = record { runs = asks.runs; files = early put may (held-then put held); taken = ap (λ (v : SinkView). v.taken) quiet }
 
-        halted : (put : Puts) → AllByRecursion (MaySnap g told) put → new.held ≡ with_files middle.held put → Stopped old new out_old out_new s options
+        halted : (put : Puts) → MaySnap g later told put → new.held ≡ with_files middle.held put → Stopped old new out_old out_new s options
         halted put may held = record { files = inl (early put may (held-then put held)); taken = ap (λ (v : SinkView). v.taken) quiet }
 
-        pub stopped-meets : (answer : Outcome) (put : Puts) → AllByRecursion (MaySnap g told) put → new.held ≡ with_files middle.held put → JobAnswers middle new answer → RunStops g told put answer → Meets answer
+        pub stopped-meets : (answer : Outcome) (put : Puts) → MaySnap g later told put → new.held ≡ with_files middle.held put → JobAnswers middle new answer → RunStops g later told put answer → Meets answer
         stopped-meets (outcome.RetriesSpent split) put may held c f = (
           where-accepted (λ files. (put : Puts) × Spends options s files split put × (new.held ≡ with_files old.held put))
-              (λ files e. (put, asks.spends s files split put (subst (λ (q : Given). SpentWith q told split put) e f), held-then put held)),
+              (λ files e. (put, asks.spends s files split put (subst (λ (q : Given). SpentWith q later told split put) e f), held-then put held)),
           broken put may held,
         )
         stopped-meets (outcome.SpillFailed worker) put may held c f = broken put may held
-        stopped-meets (outcome.SpillDamaged worker at kept found) put may held c f = broken put may held
-        stopped-meets (outcome.SpillCollides worker at place) put may held c f = broken put may held
+        stopped-meets (outcome.SpillDamaged worker at kept found) put may held c f = (broken put may held, named (outcome.SpillDamaged worker at kept found) f)
+        stopped-meets (outcome.SpillCollides worker at place) put may held c f = (broken put may held, named (outcome.SpillCollides worker at place) f)
         stopped-meets outcome.NoMemory put may held c f = inr (inl (halted put may held))
         stopped-meets outcome.FolderFailed put may held c f = (subst (λ (n : ℕ). Rose n new.puts) only.puts c.1, halted put may held)
         stopped-meets outcome.Done put may held c f = absurd f
@@ -181,18 +197,18 @@ module _ (options : AskedOptions) (job : Meaning) (input : List ℕ) (asks : Run
 
   -- what it hands out at its end
   pub ended-meets : (middle last : FolderView) (texts : RunTexts) → ReadsRun old input options.script options.turns texts → run_refusal options.settings texts ≡ None → (g : Given) → g ≡ given_by job options.settings texts
-      → (t : Traced) (parts : List (List ℕ)) → Ran g (all_tell g.settings.workers s.before) s t parts → OnlyRead old middle → RunSnaps g (all_tell g.settings.workers s.before) t middle last
-      → (answer : Outcome) → RunEnds last new out_old out_new g t parts answer → Meets answer
+      → (t : Traced) (parts : List (List ℕ)) → Ran g (all_tell g.settings.workers s.before) s t parts → OnlyRead old middle → RunSnaps g later (all_tell g.settings.workers s.before) t middle last
+      → (answer : Outcome) → RunEnds last new out_old out_new g later t parts answer → Meets answer
   ended-meets middle last texts read accepted g is t parts ran only snaps answer (inl unsaid) =
       let held : new.held ≡ with_files old.held snaps.early = ap (λ (v : FolderView). v.held) unsaid.folder ∙ snaps.held ∙ ap (λ (o : Option Files). with_files o snaps.early) only.held in
-      let may : AllByRecursion (MaySnap g (all_tell options.settings.workers s.before)) snaps.early =
-      subst (λ (n : ℕ). AllByRecursion (MaySnap g (all_tell n s.before)) snaps.early) (ap (λ (q : Given). q.settings.workers) is) snaps.may in
+      let may : MaySnap g later (all_tell options.settings.workers s.before) snaps.early =
+      subst (λ (n : ℕ). MaySnap g later (all_tell n s.before) snaps.early) (ap (λ (q : Given). q.settings.workers) is) snaps.may in
       subst (λ (a : Outcome). Meets a) (sym unsaid.memory) (inr (inl (record { files = inl (early texts read accepted g is snaps.early may held); taken = ap (λ (v : SinkView). v.taken) unsaid.out })))
   ended-meets middle last texts read accepted g is t parts ran only snaps answer (inr handed) =
-      let work : Work = record { early = snaps.early; files = run_files g t parts; summary = run_summary g t } in
-      let works : RunWorks g s work = record { t = t; texts = parts; reported = record { ran = ran; told = handed.told }; snaps = snaps.are; files = refl; summary = refl } in
-      let may : MayDo old s options work = where-accepted texts read accepted g is _ (λ files e. asks.works s files work (subst (λ (q : Given). RunWorks q s work) e works)) in
-      meets_at_end old last new out_old out_new s options snaps.early (run_files g t parts) (run_summary g t) answer may
+      let work : Work = record { early = snaps.early; files = run_files g later t parts; summary = run_summary g later t } in
+      let works : RunWorks g later s work = record { t = t; texts = parts; reported = record { ran = ran; told = handed.told }; snaps = snaps.are; files = refl; summary = refl } in
+      let may : MayDo old s options work = where-accepted texts read accepted g is _ (λ files e. asks.works s files work (subst (λ (q : Given). RunWorks q later s work) e works)) in
+      meets_at_end old last new out_old out_new s options snaps.early (run_files g later t parts) (run_summary g later t) answer may
       (snaps.held ∙ ap (λ (o : Option Files). with_files o snaps.early) only.held) (let k = only.puts in let l = snaps.counts.puts in omega (arith, k, l)) handed.hands
 
 -- # What it leaves of the spill folders
@@ -269,6 +285,6 @@ hands-none old new out_old out_new files summary outcome.FolderFailed f = tt
 hands-none old new out_old out_new files summary outcome.SayFailed f = tt
 hands-none old new out_old out_new files summary outcome.NoMemory f = tt
 
-pub ends-none : (old new : FolderView) (out_old out_new : SinkView) (g : Given) (t : Traced) (texts : List (List ℕ)) (answer : Outcome) → RunEnds old new out_old out_new g t texts answer → TellsNone answer
-ends-none old new out_old out_new g t texts answer (inl unsaid) = subst TellsNone (sym unsaid.memory) tt
-ends-none old new out_old out_new g t texts answer (inr handed) = hands-none old new out_old out_new (run_files g t texts) (run_summary g t) answer handed.hands
+pub ends-none : (old new : FolderView) (out_old out_new : SinkView) (g : Given) (later : List Meaning) (t : Traced) (texts : List (List ℕ)) (answer : Outcome) → RunEnds old new out_old out_new g later t texts answer → TellsNone answer
+ends-none old new out_old out_new g later t texts answer (inl unsaid) = subst TellsNone (sym unsaid.memory) tt
+ends-none old new out_old out_new g later t texts answer (inr handed) = hands-none old new out_old out_new (run_files g later t texts) (run_summary g later t) answer handed.hands

@@ -1,16 +1,19 @@
 -- From what a run's writer left in the job folder to the snapshots that were put.
-use Rattle.std.proofs.Common.{◌≡◌, ℕ, ◌<◌, Bool, true, false, List, [], ◌∷◌, ◌++◌, ⊎_elim, Option, None, Some, is_some, refl, sym, subst}
-use Rattle.std.specs.List.{AllByRecursion}
-use Rattle.std.proofs.lemmas.List.Elements.{All-cons, All-head, All-nil, All-tail}
+use Rattle.std.proofs.Common.{◌≡◌, ◌<◌, ℕ, Bool, true, false, List, [], ◌∷◌, Option, None, Some, is_some, refl, sym, ◌∙◌, length, le_refl}
+use Rattle.std.proofs.lemmas.List.{take_all}
+use Rattle.std.proofs.lemmas.List.Elements.{All-nil}
 use Rattle.hop_base.specs.Files.{Files}
+use Rattle.hop_base.specs.Meaning.{Meaning}
 use Rattle.hop_ports.specs.Views.{FolderView}
 use Rattle.hop_machine.specs.actors.ReducerTurns.{Writing}
 use Rattle.hop_ending.specs.Reached.{IsReached, WroteReached}
 use Rattle.hop_actors.specs.declared.fault.Fault.{Fault}
 use Rattle.hop_actors.specs.declared.fault.Fault.TheVariants as fault
-use Rattle.hop_writer.specs.Snapshots.{AreFilesOf, AreThere, HoldsPut}
+use Rattle.hop_writer.specs.Puts.{HoldsPut}
+use Rattle.hop_writer.specs.Snapshots.{AreSnapshots, AreThere, Snapshot, files_of}
 use Rattle.hop_replay.specs.Driven.{Traced}
 use Rattle.hop_replay.specs.Given.{Given, setup_given}
+use Rattle.hop_replay.specs.Named.{NamesIts}
 use Rattle.hop_replay.specs.Snapshots.{JobFolderFaults, Snapped, SnappedUntil}
 use Rattle.hop_top.specs.Ends.{JobAnswers, RunFails, RunSnaps, RunStops}
 use Rattle.hop_top.specs.Puts.{Puts, with_files}
@@ -33,46 +36,50 @@ held-so (Some was) (Some now) put t h = sym h
 
 -- # The files that may be put
 
-module _ (g : Given) (tells : Bool) where
+module _ (g : Given) (later : List Meaning) (tells : Bool) where
   -- a cut of a mark that was reached, of a reducer of the run
   abbrev OfMark : Writing → Type 0
   OfMark w = (w.reducer < (setup_given g).reducers) × IsReached (setup_given g) w.cut
 
-  may-snap : (there : List Writing) (put : Puts) → WroteReached (setup_given g) there → AreFilesOf g.job g.records g.settings tells there put → AllByRecursion (MaySnap g tells) put
-  may-snap [] [] reached files = tt
-  may-snap [] (file ∷ put) reached files = absurd files
-  may-snap (w ∷ there) [] reached files = absurd files
-  may-snap (w ∷ there) (file ∷ put) reached files =
-      let first = All-head OfMark w there reached in
-      (record { writing = w; reducer = first.0; reached = first.1; is = files.0 }, may-snap there put (All-tail OfMark w there reached) files.1)
+  abbrev all-files : List Snapshot → Puts
+  all-files snaps = files_of later g.settings.reducers snaps
 
-  -- all but those behind are such ones too
-  earlier-reached : (earlier later : List Writing) → WroteReached (setup_given g) (earlier ++ later) → WroteReached (setup_given g) earlier
-  earlier-reached [] later reached = All-nil OfMark
-  earlier-reached (w ∷ earlier) later reached = All-cons OfMark w earlier (All-head OfMark w (earlier ++ later) reached) (earlier-reached earlier later (All-tail OfMark w (earlier ++ later) reached))
-
-  there-reached : (failed : Bool) (writings there : List Writing) → AreThere failed writings there → WroteReached (setup_given g) writings → WroteReached (setup_given g) there
-  there-reached false writings there are reached = subst (WroteReached (setup_given g)) (sym are.there_are) reached
-  there-reached true writings there are reached =
-      ⊎_elim (λ (e : there ≡ are.earlier). subst (WroteReached (setup_given g)) (sym e) (earlier-reached are.earlier (are.last ∷ []) (subst (WroteReached (setup_given g)) are.writings_are reached)))
-      (λ (e : there ≡ writings). subst (WroteReached (setup_given g)) (sym e) reached) are.there_are
+  -- the files that are there are the first ones of all
+  may-snap : (failed : Bool) (writings : List Writing) (snaps : List Snapshot) (there : Puts) → WroteReached (setup_given g) writings → AreSnapshots g.job g.records g.settings tells writings snaps
+      → AreThere later g.settings.reducers failed writings snaps there → MaySnap g later tells there
+  may-snap false writings snaps there reached are is = record {
+    writings = writings;
+    reached = reached;
+    files = all-files snaps;
+    are = record { snaps = snaps; are = are; files_are = refl };
+    count = length (all-files snaps);
+    first = is.there_are ∙ sym (take_all (length (all-files snaps)) (all-files snaps) (le_refl _));
+  }
+  may-snap true writings snaps there reached are is = record {
+    writings = writings;
+    reached = reached;
+    files = all-files snaps;
+    are = record { snaps = snaps; are = are; files_are = refl };
+    count = is.count;
+    first = is.there_are;
+  }
 
   -- # At the end of a run
 
-  pub snaps-so : (t : Traced) (a b : FolderView) → Snapped g tells t a b → RunSnaps g tells t a b
+  pub snaps-so : (t : Traced) (a b : FolderView) → Snapped g later tells t a b → RunSnaps g later tells t a b
   snaps-so t a b h = record {
-    early = h.holds.put;
-    may = may-snap h.holds.there h.holds.put (there-reached false h.writings h.holds.there h.holds.are_there h.reached) h.holds.files;
-    are = record { writings = h.writings; cuts = h.cuts; files = subst (λ (there : List Writing). AreFilesOf g.job g.records g.settings tells there h.holds.put) h.holds.are_there.there_are h.holds.files };
-    held = held-so a.held b.held h.holds.put h.told h.holds.held;
+    early = h.holds.there;
+    may = may-snap false h.writings h.holds.snaps h.holds.there h.reached h.holds.are h.holds.are_there;
+    are = record { writings = h.writings; cuts = h.cuts; files = record { snaps = h.holds.snaps; are = h.holds.are; files_are = h.holds.are_there.there_are } };
+    held = held-so a.held b.held h.holds.there h.told h.holds.held;
     counts = record { gets = h.counts.0; puts = h.counts.1 };
   }
 
   -- # Where it stopped
 
-  all-there : (failed : Bool) (writings there : List Writing) → failed ≡ false → AreThere failed writings there → there ≡ writings
-  all-there false writings there e are = are.there_are
-  all-there true writings there e are = cc
+  all-there : (failed : Bool) (writings : List Writing) (snaps : List Snapshot) (there : Puts) → failed ≡ false → AreThere later g.settings.reducers failed writings snaps there → there ≡ all-files snaps
+  all-there false writings snaps there e are = are.there_are
+  all-there true writings snaps there e are = cc
 
   counts-so : (a b : FolderView) (f : Fault) → JobFolderFaults a b f → JobAnswers a b (outcome_of f)
   counts-so a b (fault.SpentAt split) h = h
@@ -82,29 +89,35 @@ module _ (g : Given) (tells : Bool) where
   counts-so a b (fault.SpillCollides worker at place) h = h
   counts-so a b fault.NoMemory h = h
 
-  stops-so : (f : Fault) (early : Puts) → ((split : ℕ) → f ≡ fault.SpentAt split → SpentWith g tells split early) → RunStops g tells early (outcome_of f)
-  stops-so (fault.SpentAt split) early spent = spent split refl
-  stops-so fault.FolderFailed early spent = tt
-  stops-so (fault.SpillFailed worker) early spent = tt
-  stops-so (fault.SpillDamaged worker at kept found) early spent = tt
-  stops-so (fault.SpillCollides worker at place) early spent = tt
-  stops-so fault.NoMemory early spent = tt
+  stops-so : (f : Fault) (early : Puts) → ((split : ℕ) → f ≡ fault.SpentAt split → SpentWith g later tells split early) → NamesIts g f → RunStops g later tells early (outcome_of f)
+  stops-so (fault.SpentAt split) early spent named = spent split refl
+  stops-so fault.FolderFailed early spent named = tt
+  stops-so (fault.SpillFailed worker) early spent named = tt
+  stops-so (fault.SpillDamaged worker at kept found) early spent named = named
+  stops-so (fault.SpillCollides worker at place) early spent named = named
+  stops-so fault.NoMemory early spent named = tt
 
-  pub fails-so : (f : Fault) (a b : FolderView) → SnappedUntil g tells f a b → RunFails g tells a b (outcome_of f)
-  fails-so f a b h = record {
-    early = h.holds.put;
-    may = may-snap h.holds.there h.holds.put (there-reached h.failed h.writings h.holds.there h.holds.are_there h.reached) h.holds.files;
-    held = held-so a.held b.held h.holds.put h.told h.holds.held;
+  pub fails-so : (f : Fault) (a b : FolderView) → SnappedUntil g later tells f a b → NamesIts g f → RunFails g later tells a b (outcome_of f)
+  fails-so f a b h named = record {
+    early = h.holds.there;
+    may = may-snap h.failed h.writings h.holds.snaps h.holds.there h.reached h.holds.are h.holds.are_there;
+    held = held-so a.held b.held h.holds.there h.told h.holds.held;
     counts = counts-so a b f h.counts;
-    why = stops-so f h.holds.put (λ split is.
+    why = stops-so f h.holds.there (λ split is.
         let spent = h.spent split is in
         record {
           writings = h.writings;
           spent = spent.0;
-          files = subst (λ (there : List Writing). AreFilesOf g.job g.records g.settings tells there h.holds.put) (all-there h.failed h.writings h.holds.there spent.1 h.holds.are_there) h.holds.files;
-        });
+          files = record { snaps = h.holds.snaps; are = h.holds.are; files_are = all-there h.failed h.writings h.holds.snaps h.holds.there spent.1 h.holds.are_there };
+        }) named;
   }
 
   -- nothing was put
-  pub fails-unput : (a : FolderView) → RunFails g tells a a outcome.NoMemory
-  fails-unput a = record { early = []; may = tt; held = refl; counts = record { gets = refl; puts = refl }; why = tt }
+  pub fails-unput : (a : FolderView) → RunFails g later tells a a outcome.NoMemory
+  fails-unput a = record {
+    early = [];
+    may = record { writings = []; reached = All-nil OfMark; files = []; are = record { snaps = []; are = tt; files_are = refl }; count = 0; first = refl };
+    held = refl;
+    counts = record { gets = refl; puts = refl };
+    why = tt;
+  }

@@ -15,7 +15,7 @@ use Rattle.hop_replay.specs.Driven.{Traced}
 use Rattle.hop_replay.specs.Folders.{Spilling, NoneFailed, OnlySpillsPut, Stopped, WorkerFaults, NamesWorker as FaultNames}
 use Rattle.hop_replay.specs.Given.{Given}
 use Rattle.hop_replay.specs.Replayed.{Ran}
-use Rattle.hop_words.specs.Options.{Asked, AskedOptions, block, run, replay}
+use Rattle.hop_words.specs.Options.{Asked, AskedOptions, block, chain, run, replay}
 use Rattle.hop_top.specs.Spilling.{CommandLeaves, LeavesSpills, NamesWorker, RunLeaves, SpillsLeft, WorkerAnswers, all_tell, tells}
 use Rattle.hop_top.specs.Stops.{outcome_of}
 use Rattle.hop_top.specs.declared.outcome.Outcome.TheVariants as outcome
@@ -223,3 +223,4 @@ nothing-left (Some options) views few = of options.command
     of (block job input) = refl
     of (run job input) = leaves
     of (replay job input) = leaves
+    of (chain jobs input) = leaves

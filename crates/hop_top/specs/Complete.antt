@@ -1,10 +1,10 @@
 -- When nothing stands in the way of a command.
-use Rattle.std.specs.Prelude.{◌≡◌, ◌⊎◌, ℕ, IsTrue, Option, Some}
+use Rattle.std.specs.Prelude.{◌≡◌, ◌⊎◌, ℕ, [], ◌∷◌, IsTrue, Option, Some}
 use Rattle.std.specs.List.{slice_get}
 use Rattle.hop_base.specs.Causes.{Rose}
 use Rattle.hop_base.specs.Files.{Files}
 use Rattle.hop_ports.specs.Views.{FolderView, SinkView}
-use Rattle.hop_words.specs.Options.{Asked, AskedOptions, block, run, replay}
+use Rattle.hop_words.specs.Options.{Asked, AskedOptions, block, chain, run, replay}
 use Rattle.hop_ending.specs.Doomed.{IsDoomedSplit}
 use Rattle.hop_machine.specs.play.Play.{Machine, NoneLeft}
 use Rattle.hop_replay.specs.Given.{PlaysTo, setup_given}
@@ -19,12 +19,16 @@ abbrev pub SomeDoomed : Asked → AskedOptions → Files → Type 0
 SomeDoomed (block job input) options files = ⊥
 SomeDoomed (run job input) options files = (split : ℕ) × IsDoomedSplit (setup_given (run_given options job input files)) split
 SomeDoomed (replay job input) options files = (split : ℕ) × IsDoomedSplit (setup_given (run_given options job input files)) split
+SomeDoomed (chain [] input) options files = ⊥
+SomeDoomed (chain (job ∷ later) input) options files = (split : ℕ) × IsDoomedSplit (setup_given (run_given options job input files)) split
 
 -- the play of the turn list ends where this split has no attempt left
 abbrev pub PlayIsSpent : Asked → AskedOptions → Files → ℕ → Type 0
 PlayIsSpent (block job input) options files split = ⊥
 PlayIsSpent (run job input) options files split = (end : Machine) × PlaysTo (run_given options job input files) (NoneLeft split) end
 PlayIsSpent (replay job input) options files split = (end : Machine) × PlaysTo (run_given options job input files) (NoneLeft split) end
+PlayIsSpent (chain [] input) options files split = ⊥
+PlayIsSpent (chain (job ∷ later) input) options files split = (end : Machine) × PlaysTo (run_given options job input files) (NoneLeft split) end
 
 module _ (old new : FolderView) (out_old out_new : SinkView) (s : Spilling) where
   -- no count of faults rose

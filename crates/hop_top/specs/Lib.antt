@@ -1,4 +1,5 @@
 pub mod Ends
+pub mod Named
 pub mod Complete
 pub mod Faults
 pub mod Meets

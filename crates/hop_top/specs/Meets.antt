@@ -1,11 +1,11 @@
 -- What each outcome says of the words, the job folder and the sink, before and after the call.
 use Rattle.std.specs.Prelude.{◌≡◌, ℕ, ◌⊎◌, ◌++◌, take, Option, None, Some, IfSome}
-use Rattle.std.specs.List.{AllByRecursion}
 use Rattle.hop_base.specs.Causes.{Rose}
 use Rattle.hop_base.specs.Files.{Files}
 use Rattle.hop_ports.specs.Views.{FolderView, SinkView, appended}
 use Rattle.hop_ports.specs.Causes.{TookPrefix}
 use Rattle.hop_words.specs.Options.{AskedOptions}
+use Rattle.hop_top.specs.Named.{CommandNames}
 use Rattle.hop_top.specs.Puts.{Puts, Work, with_files}
 use Rattle.hop_top.specs.Reading.{AreReadable, IsAbsent, IsLong, Unread, reads_of}
 use Rattle.hop_replay.specs.Folders.{Spilling}
@@ -46,7 +46,7 @@ module _ (old new : FolderView) (out_old out_new : SinkView) (s : Spilling) wher
 
   -- while it ran, files were put that the command may put
   abbrev pub Early : AskedOptions → Type 0
-  Early options = WhereAccepted old options (λ files. (early : Puts) × AllByRecursion (MayPutEarly options.command options s files) early × (new.held ≡ with_files old.held early))
+  Early options = WhereAccepted old options (λ files. (early : Puts) × MayPutEarly options.command options s files early × (new.held ≡ with_files old.held early))
 
   -- it ran, and the first of its files were put
   abbrev pub Late : AskedOptions → Type 0
@@ -67,6 +67,10 @@ module _ (old new : FolderView) (out_old out_new : SinkView) (s : Spilling) wher
   abbrev pub SpentAfter : AskedOptions → ℕ → Type 0
   SpentAfter options split = WhereAccepted old options (λ files. (early : Puts) × Spends options s files split early × (new.held ≡ with_files old.held early))
 
+  -- the spill that is named is one of the command's run, with its digest
+  abbrev pub NamesIts : AskedOptions → Outcome → Type 0
+  NamesIts options answer = WhereAccepted old options (λ files. CommandNames options.command options files answer)
+
   -- all files were put and a prefix of the summary was written
   abbrev pub Unsaid : AskedOptions → Type 0
   Unsaid options = Does old s options (λ work. (new.held ≡ with_files old.held (work.early ++ work.files)) × TookPrefix out_old out_new work.summary)
@@ -84,8 +88,8 @@ module _ (old new : FolderView) (out_old out_new : SinkView) (s : Spilling) wher
   MeetsOptions options (outcome.RetriesSpent split) = SpentAfter options split × Broken options
   MeetsOptions options outcome.FolderFailed = Rose old.puts new.puts × Stopped options
   MeetsOptions options (outcome.SpillFailed worker) = Broken options
-  MeetsOptions options (outcome.SpillDamaged worker at kept found) = Broken options
-  MeetsOptions options (outcome.SpillCollides worker at place) = Broken options
+  MeetsOptions options (outcome.SpillDamaged worker at kept found) = Broken options × NamesIts options (outcome.SpillDamaged worker at kept found)
+  MeetsOptions options (outcome.SpillCollides worker at place) = Broken options × NamesIts options (outcome.SpillCollides worker at place)
   MeetsOptions options outcome.SayFailed = Rose out_old.faults out_new.faults × Unsaid options
   MeetsOptions options outcome.NoMemory = Untouched ⊎ (Stopped options ⊎ Unsaid options)
 

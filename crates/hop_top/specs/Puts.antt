@@ -1,18 +1,11 @@
 -- Files that are put one after another.
-use Rattle.std.specs.Prelude.{◌≡◌, ◌⊎◌, ◌+◌, ℕ, List, [], ◌∷◌, ◌++◌, map, take, codes, decimal, string_bytes}
+use Rattle.std.specs.Prelude.{◌≡◌, ◌⊎◌, ◌+◌, ℕ, List, [], ◌∷◌, ◌++◌, codes, decimal}
 use Rattle.hop_base.specs.Causes.{Rose}
 use Rattle.hop_ports.specs.Views.{FolderView, SinkView, appended}
 use Rattle.hop_ports.specs.Causes.{TookPrefix}
-use Rattle.hop_ports.specs.declared.folder.PutFault.{PutFault}
-use Rattle.hop_ports.specs.declared.folder.PutFault.TheVariants.{Failed, NoMemory}
-pub use Rattle.hop_writer.specs.Snapshots.{with_files}
-use Rattle.hop_top.specs.declared.puts.NamedFile.{NamedFile}
+pub use Rattle.hop_writer.specs.Puts.{Puts, PutFirst, PutsCause, file_of, files_in, with_files}
 use Rattle.hop_top.specs.declared.outcome.Outcome.{Outcome}
 use Rattle.hop_top.specs.declared.outcome.Outcome.TheVariants as outcome
-
--- files by name, in the order in which they are put
-abbrev pub Puts : Type 0
-Puts = List (List ℕ × List ℕ)
 
 -- what a command does: the files that it puts while it runs, those that it puts at its end, and what it prints
 pub record Work : Type 0 where
@@ -28,22 +21,6 @@ part_name p = codes "part-" ++ decimal p
 abbrev pub part_files : ℕ → List (List ℕ) → Puts
 part_files p [] = []
 part_files p (text ∷ texts) = (part_name p, text) ∷ part_files (p + 1) texts
-
--- a file by its name
-abbrev pub file_of : NamedFile → List ℕ × List ℕ
-file_of file = (string_bytes file.name, file.bytes)
-
-abbrev pub files_in : List NamedFile → Puts
-files_in files = map file_of files
-
--- the first of the files were put
-abbrev pub PutFirst : FolderView → FolderView → Puts → Type 0
-PutFirst old new files = (k : ℕ) × (new.held ≡ with_files old.held (take k files))
-
--- why not all files were put, and what was left; where memory was wanting, no put failed
-abbrev pub PutsCause : FolderView → FolderView → Puts → PutFault → Type 0
-PutsCause old new files Failed = Rose old.puts new.puts × PutFirst old new files
-PutsCause old new files NoMemory = PutFirst old new files × (new.puts ≡ old.puts)
 
 module _ (old new : FolderView) (out_old out_new : SinkView) (files : Puts) (summary : List ℕ) where
   -- the first files were put and nothing was written

@@ -6,7 +6,7 @@ use Rattle.hop_base.specs.Causes.{Rose}
 use Rattle.hop_base.specs.Files.{Files}
 use Rattle.hop_ports.specs.Views.{FolderView}
 use Rattle.hop_ports.specs.Causes.{IsLonger}
-use Rattle.hop_words.specs.Options.{Asked, AskedOptions, block, run, replay}
+use Rattle.hop_words.specs.Options.{Asked, AskedOptions, block, chain, run, replay}
 use Rattle.hop_top.specs.declared.outcome.File.{File}
 use Rattle.hop_top.specs.declared.outcome.File.TheVariants as which
 use Rattle.hop_top.specs.declared.outcome.Refusal.TheVariants as refusal
@@ -42,6 +42,7 @@ abbrev pub command_reads : Asked → Option (List ℕ) → Option (List ℕ) →
 command_reads (block job input) script turns = input_named input ∷ []
 command_reads (run job input) script turns = run_reads input script turns
 command_reads (replay job input) script turns = run_reads input script turns
+command_reads (chain jobs input) script turns = run_reads input script turns
 
 -- what is read, in order
 abbrev pub reads_of : AskedOptions → List Wanted

@@ -4,7 +4,7 @@ use Rattle.std.specs.List.{slice_get, list_all}
 use Rattle.hop_ports.specs.Views.{FolderView}
 use Rattle.hop_actors.specs.Spilled.{OnlySpills}
 use Rattle.hop_replay.specs.Folders.{Spilling, SameCounts, CountRose}
-use Rattle.hop_words.specs.Options.{Asked, AskedOptions, block, run, replay}
+use Rattle.hop_words.specs.Options.{Asked, AskedOptions, block, chain, run, replay}
 use Rattle.hop_top.specs.declared.outcome.Outcome.{Outcome}
 use Rattle.hop_top.specs.declared.outcome.Outcome.TheVariants as outcome
 
@@ -59,6 +59,7 @@ abbrev pub CommandLeaves : Asked → ℕ → Spilling → Outcome → Type 0
 CommandLeaves (block job input) workers s answer = s.after ≡ s.before
 CommandLeaves (run job input) workers s answer = RunLeaves workers s answer
 CommandLeaves (replay job input) workers s answer = RunLeaves workers s answer
+CommandLeaves (chain jobs input) workers s answer = RunLeaves workers s answer
 
 -- after a call
 abbrev pub SpillsLeft : Option AskedOptions → Spilling → Outcome → Type 0

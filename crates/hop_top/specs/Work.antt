@@ -1,13 +1,13 @@
 -- When each command refuses what it read, and what it puts and prints.
-use Rattle.std.specs.Prelude.{◌≡◌, ℕ, List, [], ◌++◌, length, Option, None, codes, decimal}
+use Rattle.std.specs.Prelude.{◌≡◌, ℕ, List, [], ◌∷◌, ◌++◌, length, map, Option, None, codes, decimal}
 use Rattle.hop_base.specs.Files.{Files}
 use Rattle.hop_base.specs.Meaning.{Meaning}
 use Rattle.hop_laws.specs.Blocking.{blocking_texts}
 use Rattle.hop_records.specs.Records.{records_of}
 use Rattle.hop_jobs.specs.Known.{known_meaning}
 use Rattle.hop_words.specs.declared.options.Command.{Command}
-use Rattle.hop_words.specs.declared.options.Command.TheVariants.{Block, Run, Replay}
-use Rattle.hop_words.specs.Options.{Asked, AskedOptions, block, run, replay}
+use Rattle.hop_words.specs.declared.options.Command.TheVariants.{Block, Chain, Run, Replay}
+use Rattle.hop_words.specs.Options.{Asked, AskedOptions, block, chain, run, replay}
 use Rattle.hop_replay.specs.Given.{Given}
 use Rattle.hop_replay.specs.Folders.{Spilling}
 use Rattle.hop_top.specs.Plans.{given_by, long_refusal, run_refusal}
@@ -32,6 +32,7 @@ abbrev pub command_refusal : Asked → AskedOptions → Files → Option Outcome
 command_refusal (block job input) options files = long_refusal (records_of (bytes_of files input))
 command_refusal (run job input) options files = run_refusal options.settings (run_texts options input files)
 command_refusal (replay job input) options files = run_refusal options.settings (run_texts options input files)
+command_refusal (chain jobs input) options files = run_refusal options.settings (run_texts options input files)
 
 -- the first refusal of what was read
 abbrev pub refusal_of : AskedOptions → Files → Option Outcome
@@ -58,36 +59,44 @@ block_work job reducers input = record {
 
 abbrev pub CommandWorks : Asked → AskedOptions → Spilling → Files → Work → Type 0
 CommandWorks (block job input) options s files work = work ≡ block_work job options.settings.reducers (bytes_of files input)
-CommandWorks (run job input) options s files work = RunWorks (run_given options job input files) s work
-CommandWorks (replay job input) options s files work = RunWorks (run_given options job input files) s work
+CommandWorks (run job input) options s files work = RunWorks (run_given options job input files) [] s work
+CommandWorks (replay job input) options s files work = RunWorks (run_given options job input files) [] s work
+CommandWorks (chain [] input) options s files work = ⊥
+CommandWorks (chain (job ∷ later) input) options s files work = RunWorks (run_given options job input files) later s work
 
 -- what the options may do
 abbrev pub Works : AskedOptions → Spilling → Files → Work → Type 0
 Works options s files work = CommandWorks options.command options s files work
 
--- a file that the command may put while it runs: a run puts snapshots
-abbrev pub MayPutEarly : Asked → AskedOptions → Spilling → Files → List ℕ × List ℕ → Type 0
-MayPutEarly (block job input) options s files file = ⊥
-MayPutEarly (run job input) options s files file = MaySnap (run_given options job input files) (all_tell options.settings.workers s.before) file
-MayPutEarly (replay job input) options s files file = MaySnap (run_given options job input files) (all_tell options.settings.workers s.before) file
+-- the files that the command may put while it runs: a run puts snapshots
+abbrev pub MayPutEarly : Asked → AskedOptions → Spilling → Files → Puts → Type 0
+MayPutEarly (block job input) options s files early = early ≡ []
+MayPutEarly (run job input) options s files early = MaySnap (run_given options job input files) [] (all_tell options.settings.workers s.before) early
+MayPutEarly (replay job input) options s files early = MaySnap (run_given options job input files) [] (all_tell options.settings.workers s.before) early
+MayPutEarly (chain [] input) options s files early = ⊥
+MayPutEarly (chain (job ∷ later) input) options s files early = MaySnap (run_given options job input files) later (all_tell options.settings.workers s.before) early
 
--- the command is a run of this job over this input
-abbrev pub AsksRun : Command → Meaning → List ℕ → Type 0
-AsksRun (Block job input) meaning name = ⊥
-AsksRun (Run job input) meaning name = (known_meaning job ≡ meaning) × (input ≡ name)
-AsksRun (Replay job input) meaning name = (known_meaning job ≡ meaning) × (input ≡ name)
+-- the command is a run of this job over this input, with these later jobs
+abbrev pub AsksRun : Command → Meaning → List Meaning → List ℕ → Type 0
+AsksRun (Block job input) meaning later name = ⊥
+AsksRun (Run job input) meaning later name = (known_meaning job ≡ meaning) × (later ≡ []) × (input ≡ name)
+AsksRun (Replay job input) meaning later name = (known_meaning job ≡ meaning) × (later ≡ []) × (input ≡ name)
+AsksRun (Chain jobs input) meaning later name = (map known_meaning jobs ≡ meaning ∷ later) × (input ≡ name)
 
 -- the command makes spills
 abbrev pub IsRun : Asked → Type 0
 IsRun (block job input) = ⊥
 IsRun (run job input) = Unit {0}
 IsRun (replay job input) = Unit {0}
+IsRun (chain jobs input) = Unit {0}
 
 -- the last attempt of the split is spent, and these files were put before
 abbrev pub CommandSpends : Asked → AskedOptions → Spilling → Files → ℕ → Puts → Type 0
 CommandSpends (block job input) options s files split early = ⊥
-CommandSpends (run job input) options s files split early = SpentWith (run_given options job input files) (all_tell options.settings.workers s.before) split early
-CommandSpends (replay job input) options s files split early = SpentWith (run_given options job input files) (all_tell options.settings.workers s.before) split early
+CommandSpends (run job input) options s files split early = SpentWith (run_given options job input files) [] (all_tell options.settings.workers s.before) split early
+CommandSpends (replay job input) options s files split early = SpentWith (run_given options job input files) [] (all_tell options.settings.workers s.before) split early
+CommandSpends (chain [] input) options s files split early = ⊥
+CommandSpends (chain (job ∷ later) input) options s files split early = SpentWith (run_given options job input files) later (all_tell options.settings.workers s.before) split early
 
 abbrev pub Spends : AskedOptions → Spilling → Files → ℕ → Puts → Type 0
 Spends options s files split early = CommandSpends options.command options s files split early

@@ -10,7 +10,7 @@ ghost use Rattle.hop_replay.specs.Folders.{Spilling};
 ghost use Rattle.hop_top.specs.Work.{block_summary};
 
 use crate::outcome::{File, Outcome, Refusal};
-use crate::puts::{NamedFile, hand_out};
+use crate::puts::hand_out;
 use crate::reads::read_file;
 use hop_base::limits::{MAX_INPUT, MAX_RECORDS};
 use hop_base::{NoMemory, Settings, Text, Texts};
@@ -18,6 +18,7 @@ use hop_jobs::Known;
 use hop_ports::{Folder, Sink};
 use hop_records::{Book, BookFault};
 use hop_words::file_name;
+use hop_writer::NamedFile;
 use std::alloc::{AllocError, Global};
 
 /// All records stand in one split, since `block` makes no spills.

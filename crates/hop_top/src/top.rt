@@ -48,8 +48,15 @@ fn run<F: Folder, V: Folder + Drop, O: Sink>(
             let outcome = block(alloc, job, input, settings, &mut folder, out);
             Answered { outcome, folder }
         }
-        Command::Run { job, input } => run_job(alloc, job, input, options, folder, spills, out),
-        Command::Replay { job, input } => run_job(alloc, job, input, options, folder, spills, out),
+        Command::Run { job, input } | Command::Replay { job, input } => {
+            run_job(alloc, job, &[], input, options, folder, spills, out)
+        }
+        Command::Chain { jobs, input } => {
+            let [job, later @ ..] = jobs.as_slice() else {
+                unreachable!()
+            };
+            run_job(alloc, job, later, input, options, folder, spills, out)
+        }
     }
 }
 

@@ -53,7 +53,7 @@ returns-in-Ok-end-clause-meets g c =
     let is : G ≡ given_by meaning settings texts = λ i. record { job = meaning; records = (e.book i).records; script = e.script i; settings = settings; turns = e.turns i } in
     let t : Traced = record { begun = c.in-Ok-end.end.begun.items; histories = map (λ h. h.events) c.in-Ok-end.end.histories.items } in
     let s : Spilling = record { before = map g.V.Folder.seen c.args.spills.now.items; after = map g.V.Folder.seen c.run_plan-end.new.spills.items } in
-    ended-meets options meaning c.args.input.now (runs-job own meaning c.args.input.now c.requires.asked) (F c.args.folder) (F c.finish-outcome.new.folder) (O c.args.out.now) (O c.finish-outcome.new.out) s
+    ended-meets options meaning (map known_meaning c.args.later.now) c.args.input.now (runs-job own meaning (map known_meaning c.args.later.now) c.args.input.now c.requires.asked) (F c.args.folder) (F c.finish-outcome.new.folder) (O c.args.out.now) (O c.finish-outcome.new.out) s
     (F c.read_run.new.folder) (F c.run_plan-end.result.folder) texts c.in-Ok.ensures.read e.accepted G is t c.in-Ok-end.end.texts (rw c.in-Ok-end.is at c.run_plan-end.ensures.ran) c.in-Ok.ensures.left (rw c.in-Ok-end.is at c.run_plan-end.ensures.snaps) c.finish-outcome.result c.finish-outcome.ensures.ends
 
 pub returns-in-Ok-end-clause-leaves : goal.returns-in-Ok-end-clause-leaves
@@ -63,7 +63,7 @@ returns-in-Ok-end-clause-leaves g c =
     let G : Given = given_by_plan meaning settings c.in-Ok-planned.plan in
     let t : Traced = record { begun = c.in-Ok-end.end.begun.items; histories = map (λ h. h.events) c.in-Ok-end.end.histories.items } in
     let s : Spilling = record { before = map g.V.Folder.seen c.args.spills.now.items; after = map g.V.Folder.seen c.run_plan-end.new.spills.items } in
-    leaves-after own.settings.workers s (rw c.in-Ok-end.is at c.run_plan-end.ensures.left) c.finish-outcome.result (ends-none (F c.run_plan-end.result.folder) (F c.finish-outcome.new.folder) (O c.args.out.now) (O c.finish-outcome.new.out) G t c.in-Ok-end.end.texts c.finish-outcome.result c.finish-outcome.ensures.ends)
+    leaves-after own.settings.workers s (rw c.in-Ok-end.is at c.run_plan-end.ensures.left) c.finish-outcome.result (ends-none (F c.run_plan-end.result.folder) (F c.finish-outcome.new.folder) (O c.args.out.now) (O c.finish-outcome.new.out) G (map known_meaning c.args.later.now) t c.in-Ok-end.end.texts c.finish-outcome.result c.finish-outcome.ensures.ends)
 
 pub returns-clause-meets : goal.returns-clause-meets
 returns-clause-meets g c =
@@ -75,5 +75,5 @@ returns-clause-meets g c =
     let is : G ≡ given_by meaning settings texts = λ i. record { job = meaning; records = (e.book i).records; script = e.script i; settings = settings; turns = e.turns i } in
     let s : Spilling = record { before = map g.V.Folder.seen c.args.spills.now.items; after = map g.V.Folder.seen c.run_plan-end.new.spills.items } in
     let fault = rw c.in-Err-end.is at c.run_plan-end.ensures.fault in
-    stopped-meets options meaning c.args.input.now (runs-job own meaning c.args.input.now c.requires.asked) (F c.args.folder) (F c.run_plan-end.result.folder) (O c.args.out.now) (O c.args.out.now) s
+    stopped-meets options meaning (map known_meaning c.args.later.now) c.args.input.now (runs-job own meaning (map known_meaning c.args.later.now) c.args.input.now c.requires.asked) (F c.args.folder) (F c.run_plan-end.result.folder) (O c.args.out.now) (O c.args.out.now) s
     texts c.in-Ok.ensures.read e.accepted G is (F c.read_run.new.folder) c.in-Ok.ensures.left refl c.in-Err-end.outcome fault.early fault.may fault.held fault.counts fault.why

@@ -1,5 +1,6 @@
 use Rattle.std.proofs.Common.{◌≡◌, ◌≤◌, Bool, List, length, map, refl, sym, subst, arith}
 use Rattle.std.proofs.lemmas.List.{length-map}
+use Rattle.hop_jobs.specs.declared.known.Known.{Known}
 use Rattle.hop_jobs.specs.Known.{known_meaning}
 use Rattle.hop_jobs.specs.KnownLaws.{known_lawful}
 use Rattle.hop_ports.specs.Views.{FolderView}
@@ -20,6 +21,13 @@ use Rattle.hop_top.proofs.run.run_plan.Goals as goal
 
 pub returns-in_default-clause-leaves : goal.returns-in_default-clause-leaves
 returns-in_default-clause-leaves g c =
+    let views : List FolderView = map g.V.Folder.seen c.args.spills.now.items in let workers = c.args.settings.now.workers in
+    let n = length-map c.args.spills.now.items g.V.Folder.seen in let own = c.args.spills.now.ok in let all = c.requires.spills in let few = c.args.settings.now.few_workers in
+    let enough : workers ≤ length views = omega (arith, n, own, all, few) in
+    leaves-after workers (record { before = views; after = views }) (untouched workers views enough) outcome.NoMemory tt
+
+pub returns-in_default-with_capacity-clause-leaves : goal.returns-in_default-with_capacity-clause-leaves
+returns-in_default-with_capacity-clause-leaves g c =
     let views : List FolderView = map g.V.Folder.seen c.args.spills.now.items in let workers = c.args.settings.now.workers in
     let n = length-map c.args.spills.now.items g.V.Folder.seen in let own = c.args.spills.now.ok in let all = c.requires.spills in let few = c.args.settings.now.few_workers in
     let enough : workers ≤ length views = omega (arith, n, own, all, few) in
@@ -68,9 +76,10 @@ returns-clause-fault g c =
     let count : length kept ≡ workers = omega (arith, n, own) in
     let G : Given = given_by_plan (known_meaning c.args.job.now) (settings_of c.args.settings.now) c.args.plan.now in
     let old = F c.args.folder in let new = F c.replay-end.result.folder in
-    subst (RunFails G (all_tell workers (map seen c.args.spills.now.items)) old new) (sym c.outcome_of.ensures)
-    (subst (λ (b : Bool). RunFails G b old new (outcome_of c.in-Err-end.fault)) (tells-same seen workers c.args.spills.now.items kept others c.set_apart.ensures.all count)
-    (fails-so G (all_tell workers (map seen kept)) c.in-Err-end.fault old new (rw c.in-Err-end.is at c.replay-end.ensures.until)))
+    subst (RunFails G (map known_meaning c.args.later.now) (all_tell workers (map seen c.args.spills.now.items)) old new) (sym c.outcome_of.ensures)
+    (subst (λ (b : Bool). RunFails G (map known_meaning c.args.later.now) b old new (outcome_of c.in-Err-end.fault)) (tells-same seen workers c.args.spills.now.items kept others c.set_apart.ensures.all count)
+    (subst (λ (jobs : List Known). RunFails G (map known_meaning jobs) (all_tell workers (map seen kept)) old new (outcome_of c.in-Err-end.fault)) c.in-Ok.ensures.items
+    (fails-so G (map known_meaning c.in-Ok.later.items) (all_tell workers (map seen kept)) c.in-Err-end.fault old new (rw c.in-Err-end.is at c.replay-end.ensures.until) (rw c.in-Err-end.is at c.replay-end.ensures.named))))
 
 pub returns-in-Ok-end-clause-snaps : goal.returns-in-Ok-end-clause-snaps
 returns-in-Ok-end-clause-snaps g c =
@@ -81,13 +90,19 @@ returns-in-Ok-end-clause-snaps g c =
     let G : Given = given_by_plan (known_meaning c.args.job.now) (settings_of c.args.settings.now) c.args.plan.now in
     let t : Traced = record { begun = c.in-Ok-end.end.begun.items; histories = map (λ h. h.events) c.in-Ok-end.end.histories.items } in
     let old = F c.args.folder in let new = F c.replay-end.result.folder in
-    subst (λ (b : Bool). RunSnaps G b t old new) (tells-same seen workers c.args.spills.now.items kept others c.set_apart.ensures.all count)
-    (snaps-so G (all_tell workers (map seen kept)) t old new (rw c.in-Ok-end.is at c.replay-end.ensures.snapped))
+    subst (λ (b : Bool). RunSnaps G (map known_meaning c.args.later.now) b t old new) (tells-same seen workers c.args.spills.now.items kept others c.set_apart.ensures.all count)
+    (subst (λ (jobs : List Known). RunSnaps G (map known_meaning jobs) (all_tell workers (map seen kept)) t old new) c.in-Ok.ensures.items
+    (snaps-so G (map known_meaning c.in-Ok.later.items) (all_tell workers (map seen kept)) t old new (rw c.in-Ok-end.is at c.replay-end.ensures.snapped)))
 
 pub returns-in_default-clause-fault : goal.returns-in_default-clause-fault
 returns-in_default-clause-fault g c =
     let workers = c.args.settings.now.workers in
-    fails-unput (given_by_plan (known_meaning c.args.job.now) (settings_of c.args.settings.now) c.args.plan.now) (all_tell workers (map g.V.Folder.seen c.args.spills.now.items)) (g.F.Folder.seen c.args.folder)
+    fails-unput (given_by_plan (known_meaning c.args.job.now) (settings_of c.args.settings.now) c.args.plan.now) (map known_meaning c.args.later.now) (all_tell workers (map g.V.Folder.seen c.args.spills.now.items)) (g.F.Folder.seen c.args.folder)
+
+pub returns-in_default-with_capacity-clause-fault : goal.returns-in_default-with_capacity-clause-fault
+returns-in_default-with_capacity-clause-fault g c =
+    let workers = c.args.settings.now.workers in
+    fails-unput (given_by_plan (known_meaning c.args.job.now) (settings_of c.args.settings.now) c.args.plan.now) (map known_meaning c.args.later.now) (all_tell workers (map g.V.Folder.seen c.args.spills.now.items)) (g.F.Folder.seen c.args.folder)
 
 pub replay-end-requires-clause-folder : goal.replay-end-requires-clause-folder
 replay-end-requires-clause-folder g c = refl
