@@ -1,7 +1,10 @@
 -- A run of the tests as it begins.
 use Rattle.std.proofs.Common.{◌≡◌, ℕ, zero, suc, ◌<◌, arith, Bool, true, false, nat_lt, cond, List, [], ◌∷◌, Some, None, refl, sym, ap, ◌∙◌, subst}
 use Rattle.std.specs.List.{slice_get}
-use Rattle.hop_event.specs.Coverage.{first_reached}
+use Rattle.std.specs.Prelude.{◌&&◌, Option, filter, nat_le}
+use Rattle.hop_event.specs.Coverage.{declared, first_reached, progress_of, tentative_records}
+use Rattle.hop_event.specs.declared.declared.Declared.{Declared}
+use Rattle.hop_event.proofs.CoverageLaws.{leader_nothing}
 use Rattle.hop_ports.specs.Clean.{nothing_held}
 use Rattle.hop_ports.specs.Memory.{memory_view}
 use Rattle.hop_ports.specs.declared.memory.MemFolder.{MemFolder}
@@ -12,15 +15,27 @@ use Rattle.hop_machine.specs.run.AllHome.{new_deeds, AllNoneDue}
 use Rattle.hop_start.specs.Given.{IsSpillFolder, AreSpillFolders}
 use Rattle.hop_actor_tests.specs.Runs.{no_files}
 
--- # Without marks no cut is due
+-- # At first no cut is due
 
 none_of : (t : Bool) (due : List ℕ) → due ≡ [] → (cond t (record { events = []; due = due }) nothing_under_lock).due ≡ []
 none_of true due e = e
 none_of false due e = refl
 
-pub none_due : (s : Setup) (d : Deeds) → s.marks ≡ [] → d ≡ new_deeds s d.ends → AllNoneDue d
-none_due s d e new q l =
-    ap (λ (x : Deeds). (x.did.keeps q).due) new ∙ none_of (nat_lt q s.reducers) (marks_due s []) (λ i. first_reached s.tentative s.lens (e i) [])
+pub none_due : (s : Setup) (d : Deeds) → marks_due s [] ≡ [] → d ≡ new_deeds s d.ends → AllNoneDue d
+none_due s d none new q l = ap (λ (x : Deeds). (x.did.keeps q).due) new ∙ none_of (nat_lt q s.reducers) (marks_due s []) none
+
+-- without marks
+pub no_marks : (s : Setup) → s.marks ≡ [] → marks_due s [] ≡ []
+no_marks s e = λ i. first_reached s.tentative s.lens (e i) []
+
+-- with marks above what nothing reaches
+nothing_declared : (tentative : Bool) (i : ℕ) → declared tentative [] i ≡ None
+nothing_declared true i = leader_nothing (tentative_records i []) 16 (λ a below. refl)
+nothing_declared false i = refl
+
+pub none_reached : (tentative : Bool) (lens marks : List ℕ) → filter (λ m. nat_lt 0 m && nat_le m (progress_of lens (λ i. None))) marks ≡ [] → first_reached tentative lens marks [] ≡ []
+none_reached tentative lens marks none =
+    ap (λ (at : ℕ → Option Declared). filter (λ m. nat_lt 0 m && nat_le m (progress_of lens at)) marks) (λ j i. nothing_declared tentative i j) ∙ none
 
 -- # Folders that hold nothing
 

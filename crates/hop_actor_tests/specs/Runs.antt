@@ -46,3 +46,21 @@ second_script = script_of (codes "restart 0 2\n")
 
 abbrev pub restarting_settings : RunSettings
 restarting_settings = record least_settings { split = 2; lane = 64 }
+
+-- Four records and four marks. They are one split, and what is tentative counts; or two splits, of which the winners alone count; or
+-- two splits, where what is tentative counts and the reducer restarts after its first arrival.
+abbrev pub four_marks : List ℕ
+four_marks = 2000 ∷ 2500 ∷ 5000 ∷ 10000 ∷ []
+
+abbrev pub tentative_settings : RunSettings
+tentative_settings = record least_settings { split = 4; lane = 64; tentative = true; marks = four_marks }
+
+abbrev pub committed_settings : RunSettings
+committed_settings = record least_settings { split = 2; lane = 64; marks = four_marks }
+
+abbrev pub falling_settings : RunSettings
+falling_settings = record least_settings { split = 2; lane = 64; tentative = true; marks = four_marks }
+
+-- One record, two workers, and a backup attempt. The first attempt fails at once.
+abbrev pub refused_script : ScriptLines
+refused_script = script_of (codes "fail 0 0 0\n")

@@ -4,21 +4,25 @@ ghost use Rattle.hop_records.specs.Records.{records_of};
 ghost use Rattle.hop_script.specs.Script.{script_of};
 ghost use Rattle.hop_base.specs.Run.{RunSettings};
 ghost use Rattle.hop_jobs.specs.Wc.{wc_meaning};
+ghost use Rattle.hop_inner.specs.Setups.{setup_of};
+ghost use Rattle.hop_machine.specs.actors.ReducerTurns.{marks_due};
 ghost use Rattle.hop_machine.specs.home.MapperHome.{has_failed};
 ghost use Rattle.hop_ports.specs.Memory.{memory_view};
 ghost use Rattle.hop_actors.specs.Acting.{said_turn};
 ghost use Rattle.hop_mapper.specs.Mappers.{settings_of};
 ghost use Rattle.hop_start.specs.Given.{AreSpillFolders};
-ghost use Rattle.hop_actor_tests.specs.Benches.{IsGiven};
+ghost use Rattle.hop_actor_tests.specs.Benches.{IsGiven, IsCutEnd};
 ghost use Rattle.hop_actor_tests.specs.Runs.{no_files};
 
 use hop_actors::{Store, Turn};
 use hop_base::{Lens, Marks, RunName, Settings};
 use hop_board::PlainSeat;
 use hop_crew::PlainWorld;
+use hop_cut::Cut;
 use hop_drain::Drain;
 use hop_event::History;
 use hop_inner::Reach;
+use hop_inner::steps::take_cut_on;
 use hop_jobs::Wc;
 use hop_machine::run_laws::runs_stay_at_home;
 use hop_mapper::Mapper;
@@ -144,12 +148,25 @@ impl<'a, N: RunName> Bench<'a, N> {
     // The actors of the run as it begins. It has no marks.
     pub(crate) fn new(
         alloc: Global,
-        mut folders: Vec<MemFolder>,
+        folders: Vec<MemFolder>,
         given: &'a Given,
     ) -> Result<Bench<'a, N>, Fail>
         requires given { IsGiven N.job N.records N.script N.settings given.now.book given.now.lens given.now.script given.now.settings }
         requires folders { AreSpillFolders N.tells N.spills N.settings.workers memory_view folders.items }
         requires unmarked { N.settings.marks ≡ [] }
+    {
+        Bench::with_marks(alloc, folders, given)
+    }
+
+    // The same with marks, none of which the empty history reaches.
+    pub(crate) fn with_marks(
+        alloc: Global,
+        mut folders: Vec<MemFolder>,
+        given: &'a Given,
+    ) -> Result<Bench<'a, N>, Fail>
+        requires given { IsGiven N.job N.records N.script N.settings given.now.book given.now.lens given.now.script given.now.settings }
+        requires folders { AreSpillFolders N.tells N.spills N.settings.workers memory_view folders.items }
+        requires unreached { marks_due (setup_of N.records N.script N.settings) [] ≡ [] }
     {
         let Given {
             job,
@@ -217,4 +234,34 @@ impl<'a, N: RunName> Bench<'a, N> {
         } = self;
         Ok(world.hold(0).into_history())
     }
+
+    // The marks of the cuts that reducer 0 sent, in order, each with the progress of what the cut covers, where no turn failed.
+    pub(crate) fn into_cuts(self, alloc: Global) -> Result<Vec<(u16, u16)>, Fail> {
+        if self.failed {
+            return Err(Fail::from("a turn failed"));
+        }
+        let Bench {
+            mappers: _,
+            reducers: _,
+            mut world,
+            turns: _,
+            failed: _,
+        } = self;
+        let mut cuts = Vec::new(alloc);
+        for _ in 0..16u8 {
+            let Some(cut) = take_cut(&mut world) else {
+                return Ok(cuts);
+            };
+            cuts.push((cut.mark, cut.progress))?;
+        }
+        Ok(cuts)
+    }
+}
+
+// The next cut of reducer 0's cut lane.
+fn take_cut<N: RunName>(world: &mut World<N>) -> Option<Cut>
+    requires { IsCutEnd (setup_of N.records N.script N.settings) world.old }
+    ensures { IsCutEnd (setup_of N.records N.script N.settings) world.new }
+{
+    take_cut_on::<N, World<N>>(world, 0)
 }

@@ -6,7 +6,11 @@ mod bench;
 #[cfg(test)]
 mod boards;
 #[cfg(test)]
+mod cuts;
+#[cfg(test)]
 mod lanes;
+#[cfg(test)]
+mod notices;
 #[cfg(test)]
 mod runs;
 #[cfg(test)]

@@ -24,7 +24,7 @@ fn letter(turn: Turn) -> u8 {
 }
 
 // Turns in this order: a is one of mapper 0, b of mapper 1, and r of reducer 0. The answers, up to one that failed.
-fn take_turns<N: RunName>(
+pub(crate) fn take_turns<N: RunName>(
     alloc: Global,
     bench: &mut Bench<N>,
     orders: &[u8],
@@ -205,7 +205,7 @@ fn own_settings(alloc: Global) -> Settings
 }
 
 // A range that came by the lane of worker `w`.
-fn arrive(w: u8, split: u32, attempt: u8, from: u32, to: u32) -> Event {
+pub(crate) fn arrive(w: u8, split: u32, attempt: u8, from: u32, to: u32) -> Event {
     Event::Arrive {
         part: Part {
             split,
@@ -217,11 +217,11 @@ fn arrive(w: u8, split: u32, attempt: u8, from: u32, to: u32) -> Event {
     }
 }
 
-fn won(split: u32, attempt: u8) -> Event {
+pub(crate) fn won(split: u32, attempt: u8) -> Event {
     Event::Won { split, attempt }
 }
 
-fn revoked(split: u32, attempt: u8) -> Event {
+pub(crate) fn revoked(split: u32, attempt: u8) -> Event {
     Event::Revoked { split, attempt }
 }
 

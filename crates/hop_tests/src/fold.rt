@@ -2,7 +2,7 @@
 ghost use Rattle.std.specs.Prelude.{◌≤◌, length};
 
 use hop_base::{Blob, NoMemory, Pair, Text, Texts, Val};
-use hop_fold::{block, block_lines};
+use hop_fold::{block, block_lines, block_short_lines};
 use hop_jobs::{Sum, Top, Wc};
 use hop_laws::Job;
 use hop_records::{Book, BookFault};
@@ -91,6 +91,21 @@ fn blocks_the_lines_of_texts(rt: HostRuntime) -> Result<(), Fail> {
         labelled(alloc, &out)?.as_slice(),
         b":a\t3\nc\t3\n:".as_slice()
     );
+    Ok(())
+}
+
+// A line of 65,556 bytes is read, and one of a byte more is left out. The line is one word; its text has a colon before it here, and a tab, a number and a line feed behind it.
+#[test]
+fn leaves_out_lines_that_are_too_long(rt: HostRuntime) -> Result<(), Fail> {
+    let alloc = rt.alloc();
+    for (len, written) in [(65_556, 65_560), (65_557, 1)] {
+        let mut line = vec![in alloc; b'x'; len]?;
+        line.push(b'\n')?;
+        let mut texts = Texts::new(alloc);
+        texts.push(Text::from_vec(line))?;
+        let out = block_short_lines(alloc, &Wc, &texts, 1)?;
+        assert_eq!(rt; labelled(alloc, &out)?.len(), written);
+    }
     Ok(())
 }
 

@@ -7,8 +7,8 @@ use hop_top::{File, Handed, Outcome, hop_plain};
 use std::alloc::{AllocError, Global};
 use std::test::Fail;
 
-// One failing call, or none.
-fn failing(alloc: Global, call: Option<u64>) -> Result<Vec<u64>, AllocError> {
+/// One failing call, or none.
+pub fn failing(alloc: Global, call: Option<u64>) -> Result<Vec<u64>, AllocError> {
     let mut fails = Vec::new(alloc);
     if let Some(call) = call {
         fails.push(call)?;
@@ -16,8 +16,8 @@ fn failing(alloc: Global, call: Option<u64>) -> Result<Vec<u64>, AllocError> {
     Ok(fails)
 }
 
-// Eight spill folders. Of the first this call fails.
-fn eight(alloc: Global, call: Option<u64>) -> Result<Vec<MemFolder>, AllocError>
+/// Eight spill folders. Of the first this call fails.
+pub fn eight(alloc: Global, call: Option<u64>) -> Result<Vec<MemFolder>, AllocError>
     ensures { IfOk result (λ spills. vec_len spills ≡ 8) }
 {
     let fails = failing(alloc, call)?;

@@ -1,5 +1,6 @@
 //! The words of command lines, by a table of the forms and ranges.
 use hop_base::{NoMemory, Text, Words};
+use hop_jobs::Known;
 use hop_laws::Job;
 use hop_words::{Command, Options, WordsFault, read_words};
 use std::alloc::{AllocError, Global};
@@ -13,7 +14,7 @@ fn words(alloc: Global, line: &[&str]) -> Result<Words, NoMemory> {
     Ok(words)
 }
 
-// The command, its job, its input and the number of reducers.
+// The command, its job or jobs, its input and the number of reducers.
 fn asked(alloc: Global, line: &[&str]) -> Result<String, Fail> {
     let words = words(alloc, line)?;
     match read_words(alloc, &words) {
@@ -24,16 +25,32 @@ fn asked(alloc: Global, line: &[&str]) -> Result<String, Fail> {
 }
 
 fn command_shown(alloc: Global, options: &Options) -> Result<String, Fail> {
-    let (word, job, input) = match &options.command {
-        Command::Block { job, input } => ("block", job, input),
-        Command::Run { job, input } => ("run", job, input),
-        Command::Replay { job, input } => ("replay", job, input),
+    let (word, jobs, input) = match &options.command {
+        Command::Block { job, input } => ("block", job_shown(alloc, job)?, input),
+        Command::Run { job, input } => ("run", job_shown(alloc, job)?, input),
+        Command::Replay { job, input } => ("replay", job_shown(alloc, job)?, input),
+        Command::Chain { jobs, input } => ("chain", jobs_shown(alloc, jobs.as_slice())?, input),
     };
-    let name = job.name(alloc)?;
-    let name = text_of(name.as_slice());
     let input = text_of(input.as_slice());
     let reducers = options.settings.reducers;
-    Ok(format!(in alloc; "{word} {name} {input} {reducers}")?)
+    Ok(format!(in alloc; "{word}{jobs} {input} {reducers}")?)
+}
+
+// The name of a job, behind a space.
+fn job_shown(alloc: Global, job: &Known) -> Result<String, Fail> {
+    let name = job.name(alloc)?;
+    let name = text_of(name.as_slice());
+    Ok(format!(in alloc; " {name}")?)
+}
+
+// The names of jobs, each behind a space.
+fn jobs_shown(alloc: Global, jobs: &[Known]) -> Result<String, Fail> {
+    let mut names = String::new(alloc);
+    for job in jobs {
+        let name = job_shown(alloc, job)?;
+        names.push_str(name.as_str())?;
+    }
+    Ok(names)
 }
 
 // The sizes of a run and its files.
@@ -172,6 +189,75 @@ fn reads_the_forms_of_runs(rt: HostRuntime) -> Result<(), Fail> {
     for (line, command, files) in cases {
         assert_eq!(rt; asked(alloc, line)?.as_str(), command, "at {line:?}");
         assert_eq!(rt; sizes(alloc, line)?.as_str(), files, "at {line:?}");
+    }
+    Ok(())
+}
+
+#[test]
+fn reads_the_forms_of_chains(rt: HostRuntime) -> Result<(), Fail> {
+    let alloc = rt.alloc();
+    let cases: [(&[&str], &str, &str); 4] = [
+        (
+            &["chain", "wc", "top", "in"],
+            "chain wc top:10 in 1",
+            "16384 1000 2 4 2 [] true - -",
+        ),
+        (
+            &["chain", "top", "max", "top", "in", "--k", "3"],
+            "chain top:3 max top:3 in 1",
+            "16384 1000 2 4 2 [] true - -",
+        ),
+        (
+            &["chain", "wc", "sum", "wc", "max", "in"],
+            "chain wc sum wc max in 1",
+            "16384 1000 2 4 2 [] true - -",
+        ),
+        (
+            &[
+                "--reducers=8",
+                "chain",
+                "wc",
+                "--split=1",
+                "wc",
+                "--spill=2",
+                "in",
+                "--workers=3",
+                "--attempts=4",
+                "--lane=5",
+                "--marks=6,7",
+                "--tentative=no",
+                "--script=s",
+            ],
+            "chain wc wc in 8",
+            "1 2 3 4 5 [6, 7] false s -",
+        ),
+    ];
+    for (line, command, files) in cases {
+        assert_eq!(rt; asked(alloc, line)?.as_str(), command, "at {line:?}");
+        assert_eq!(rt; sizes(alloc, line)?.as_str(), files, "at {line:?}");
+    }
+    Ok(())
+}
+
+#[test]
+fn refuses_what_is_no_chain(rt: HostRuntime) -> Result<(), Fail> {
+    let alloc = rt.alloc();
+    let cases: [&[&str]; 12] = [
+        &["chain"],
+        &["chain", "in"],
+        &["chain", "wc", "in"],
+        &["chain", "wc", "top", "sum", "max", "wc", "in"],
+        &["chain", "wc", "sort", "in"],
+        &["chain", "Wc", "top", "in"],
+        &["chain", "wc", "top", ".in"],
+        &["chain", "wc", "top", "in", "--turns", "t"],
+        &["chain", "wc", "top", "in", "--k", "0"],
+        &["run", "wc", "top", "in"],
+        &["block", "wc", "top", "in"],
+        &["replay", "wc", "top", "in", "--turns", "t"],
+    ];
+    for line in cases {
+        assert_eq!(rt; asked(alloc, line)?.as_str(), "", "at {line:?}");
     }
     Ok(())
 }
