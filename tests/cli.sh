@@ -3,6 +3,7 @@
 # Each runs in a folder of its own. The last line is 'N passed, N failed'.
 set -u
 program=$(cd "$(dirname "$1")" && pwd)/$(basename "$1")
+examples=$(cd "$(dirname "$0")/../examples" && pwd) || exit 1
 top=$(mktemp -d) || exit 1
 trap 'rm -rf "$top"' EXIT
 passed=0
@@ -486,6 +487,104 @@ each_order '' 3 3
 same orders 20 "$orders"
 end
 
+# ---- chains
+
+# The snapshot of a later job, a mark and a reducer, by its lines behind the first: JOB MARK REDUCER LINES
+chained() {
+    holds "j$1-snap-$2-$3" "hop-chain-snapshot 1 stage $1 $4 "
+}
+
+begin 'the words of a text and the most frequent of them'
+printf 'a b\na a\nb c\nc c\n' >in
+run chain wc top in --k 2 --reducers 2 --split 2 --workers 1 --marks 5000
+ended 0 '' 'done records=4 splits=2 parts=2 snapshots=2 attempts=2 pulled=0 settled=4 jobs=2' \
+    'in j2-part-0 j2-part-1 j2-snap-5000-0 j2-snap-5000-1 part-0 part-1 snap-5000-0 snap-5000-1 spill-0 trace '
+snapped 5000 0 'reducer 0 of 2 progress 5000 split 0 attempt 0 records 2 of 2 tentative split 1 none -- b>1'
+snapped 5000 1 'reducer 1 of 2 progress 5000 split 0 attempt 0 records 2 of 2 tentative split 1 none -- a>3'
+chained 2 5000 0 'job top:2 mark 5000 reducer 0 of 2 -- a>3 b>1'
+chained 2 5000 1 'job top:2 mark 5000 reducer 1 of 2 --'
+holds part-0 'b>2 '
+holds part-1 'a>3 c>3 '
+holds j2-part-0 'a>3 c>3 '
+holds j2-part-1 ''
+traces 2 2 'begun 0 1 begun 1 1 reducer 0 arrive 0 0 0 2 s0 won 0 0 arrive 1 0 0 2 s0 won 1 0 finish reducer 1 arrive 0 0 0 2 s0 won 0 0 arrive 1 0 0 2 s0 won 1 0 finish'
+end
+
+begin 'each mark has its own snapshot of the later job'
+printf 'a\nb b\n' >in
+run chain wc top in --k 1 --marks 5000,10000 --split 1 --workers 1
+ended 0 '' 'done records=2 splits=2 parts=1 snapshots=2 attempts=2 pulled=0 settled=2 jobs=2' \
+    'in j2-part-0 j2-snap-10000-0 j2-snap-5000-0 part-0 snap-10000-0 snap-5000-0 spill-0 trace '
+snapped 5000 0 'reducer 0 of 1 progress 5000 split 0 attempt 0 records 1 of 1 tentative split 1 none -- a>1'
+snapped 10000 0 'reducer 0 of 1 progress 10000 split 0 attempt 0 records 1 of 1 committed split 1 attempt 0 records 1 of 1 tentative -- a>1 b>2'
+chained 2 5000 0 'job top:1 mark 5000 reducer 0 of 1 -- a>1'
+chained 2 10000 0 'job top:1 mark 10000 reducer 0 of 1 -- b>2'
+holds part-0 'a>1 b>2 '
+holds j2-part-0 'b>2 '
+end
+
+begin 'a chain of four jobs'
+printf "$counts" >in
+run chain wc top wc max in --k 2 --workers 1 --marks 10000
+ended 0 '' 'done records=3 splits=1 parts=1 snapshots=1 attempts=1 pulled=0 settled=1 jobs=4' \
+    'in j2-part-0 j2-snap-10000-0 j3-part-0 j3-snap-10000-0 j4-part-0 j4-snap-10000-0 part-0 snap-10000-0 spill-0 trace '
+for file in part-0 j2-part-0 j3-part-0 j4-part-0; do
+    case $file in
+        part-0) holds $file 'a>3 b>2 c>1 ' ;;
+        j2-part-0) holds $file 'a>3 b>2 ' ;;
+        *) holds $file '2>1 3>1 a>1 b>1 ' ;;
+    esac
+done
+chained 2 10000 0 'job top:2 mark 10000 reducer 0 of 1 -- a>3 b>2'
+chained 3 10000 0 'job wc mark 10000 reducer 0 of 1 -- 2>1 3>1 a>1 b>1'
+chained 4 10000 0 'job max mark 10000 reducer 0 of 1 -- 2>1 3>1 a>1 b>1'
+end
+
+begin 'a chain of no records'
+: >in
+run chain wc sum in --marks 1
+ended 0 '' 'done records=0 splits=0 parts=1 snapshots=1 attempts=0 pulled=0 settled=0 jobs=2' 'in j2-part-0 j2-snap-1-0 part-0 snap-1-0 trace '
+chained 2 1 0 'job sum mark 1 reducer 0 of 1 --'
+holds part-0 ''
+holds j2-part-0 ''
+end
+
+begin 'a chain with a failed attempt'
+printf "$four" >in
+echo 'fail 0 0 1' >script
+run chain wc top in --k 1 --split 2 --spill 1 --workers 1 --script script
+ended 0 '' 'done records=4 splits=2 parts=1 snapshots=0 attempts=3 pulled=0 settled=5 jobs=2' 'in j2-part-0 part-0 script spill-0 trace '
+holds part-0 'a>2 b>1 c>1 '
+holds j2-part-0 'a>2 '
+echo 'fail 1 0 0' >script
+rm part-0 j2-part-0
+run chain wc top in --split 2 --spill 1 --workers 1 --script script --attempts 1
+ended 5 'hop: split 1 has spent its attempts' '' 'in script spill-0 trace '
+end
+
+for words in 'chain' 'chain wc' 'chain wc in' 'chain wc top' 'chain wc top sum max wc in' 'chain wc sort in' 'chain sort wc in' 'chain wc top ../in' \
+    'chain wc top in --turns t' 'chain wc top in --trace t' 'chain wc top in --k 0' 'chain wc top in --marks 5,5' 'run wc top in' 'replay wc top in --turns t'; do
+    begin "not understood: $words"
+    printf "$counts" >in
+    # shellcheck disable=SC2086
+    run $words
+    ended 1 "$usage" '' 'in '
+    end
+done
+
+begin 'directories where files of a chain go'
+printf "$counts" >in
+mkdir j2-part-1
+run chain wc top in --reducers 2 --workers 1 --marks 10000
+ended 6 'hop: the job folder failed' '' 'in j2-part-0 j2-part-1 j2-snap-10000-0 j2-snap-10000-1 part-0 part-1 snap-10000-0 snap-10000-1 spill-0 trace '
+holds j2-part-0 'a>3 b>2 c>1 '
+rm -rf j2-* part-* snap-* spill-0 trace
+mkdir j2-snap-10000-1
+run chain wc top in --reducers 2 --workers 1 --marks 10000
+ended 6 'hop: the job folder failed' '' 'in j2-snap-10000-0 j2-snap-10000-1 snap-10000-0 snap-10000-1 spill-0 '
+chained 2 10000 0 'job top:10 mark 10000 reducer 0 of 2 -- a>3 b>2 c>1'
+end
+
 begin 'the greatest number of splits, and one more'
 yes x | head -1024 >in
 run run wc in --split 1
@@ -562,6 +661,45 @@ status=$?
 : >"$top/err"
 ended 2 '' '' ''
 end
+
+# ---- examples
+
+# Runs the command of a page, if there is one, and notes where its output isn't what the page has.
+step() {
+    if [ -n "$command" ]; then
+        (cd "$top/work" && PATH="$top/bin:$PATH" sh -c "$command") >"$top/out" 2>&1 </dev/null
+        cmp -s "$top/wanted" "$top/out" || fault="$fault; $command: wanted <$(cat "$top/wanted")>, found <$(cat "$top/out")>"
+        steps=$((steps + 1))
+    fi
+    command=''
+    : >"$top/wanted"
+}
+
+# The lines of a page that begin with `$ `, in its blocks of kind console, are commands. Behind each stands exactly what it prints.
+tell() {
+    command=''
+    steps=0
+    inside=no
+    while IFS= read -r line; do
+        case "$inside $line" in
+            'no ```console') inside=yes; step ;;
+            'yes ```') inside=no; step ;;
+            'yes $ '*) step; command=${line#'$ '} ;;
+            'yes '*) printf '%s\n' "$line" >>"$top/wanted" ;;
+        esac
+    done <"$1"
+    step
+    [ "$steps" -gt 0 ] || fault="$fault; no command"
+}
+
+mkdir "$top/bin" && ln -s "$program" "$top/bin/hop" || exit 1
+for page in "$examples"/*/README.md; do
+    folder=$(dirname "$page")
+    begin "the example $(basename "$folder")"
+    cp "$folder"/* .
+    tell "$page"
+    end
+done
 
 echo
 if [ "$skipped" -gt 0 ]; then
