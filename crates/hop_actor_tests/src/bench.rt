@@ -122,7 +122,7 @@ type World<N> = PlainWorld<N, Shelf<N>>;
 #[derive(Drop)]
 pub(crate) struct Bench<'a, N: RunName> {
     mappers: Vec<Mapper<'a, N, MemFolder, Wc, OpenGate, PlainSeat>>,
-    reducers: Vec<Drain<'a, N>>,
+    reducers: Vec<Drain<'a, N, Wc>>,
     world: World<N>,
     turns: u64,
     failed: bool,
@@ -177,7 +177,7 @@ impl<'a, N: RunName> Bench<'a, N> {
             settings,
         } = given;
         let mappers = new_mappers(alloc, &mut folders, book, job, script, gate, settings)?;
-        let reducers = new_reducers(alloc, lens, settings)?;
+        let reducers = new_reducers(alloc, job, lens, settings)?;
         let world = new_world(alloc, lens, script, settings)?;
         settings_make_a_setup::<N>(settings);
         new_actors_start();

@@ -13,6 +13,7 @@ use Rattle.hop_event.specs.History.{upto, winner, is_revoked}
 use Rattle.hop_event.specs.Legal.{Rules, Follows, MayCome, IsRange, IsWorker, GoesOn, no_other, is_restart, restart_due}
 use Rattle.hop_event.specs.Coverage.{first_reached}
 use Rattle.hop_shelf.specs.Names.{rules_of}
+use Rattle.hop_shelf.specs.Cuts.{AreDue}
 use Rattle.hop_shelf.specs.Journal.{JournalValue, AddsEvent}
 use Rattle.hop_shelf.specs.declared.shelf.Arrived.{Arrived}
 use Rattle.hop_shelf.specs.declared.shelf.Arrived.TheVariants.{Taken, Ignored}
@@ -170,3 +171,13 @@ arrived_taken old part via run (Ignored have) new goes got = absurd (got.0 goes)
 -- room for one event more changes nothing that the lock shows
 pub roomy_held : (p spare : ℕ) (s now : ShelfValue) (a : Deeds) → now.p ≡ s.p → now.journal ≡ record s.journal { spare = spare } → IsHeld p s a → IsHeld p now a
 roomy_held p spare s now a number journal held = record { number = number ∙ held.number; held = held.held; events = (λ i. (journal i).events) ∙ held.events }
+
+-- the shelf with one event more, whatever its runs have become
+pub added_still : (p : ℕ) (s now : ShelfValue) (a : Deeds) → now.journal ≡ s.journal → now.p ≡ s.p → IsAdded p s a → IsAdded p now a
+added_still p s now a journal number added = record {
+  number = number ∙ added.number;
+  held = added.held;
+  event = added.event;
+  events = (λ i. (journal i).events) ∙ added.events;
+  due = subst AreDue (sym journal) added.due;
+}

@@ -1,5 +1,6 @@
 -- What is true of every reducer, and parts of its turn.
 use Rattle.std.specs.Prelude.{◌≡◌, ℕ, ◌<◌, List, [], ◌∷◌, if◌then◌else◌, Bool}
+use Rattle.hop_base.specs.Meaning.{Meaning}
 use Rattle.hop_base.specs.Run.{RunSettings}
 use Rattle.hop_base.specs.declared.settings.Settings.{Settings}
 use Rattle.hop_records.specs.Records.{lens_of}
@@ -14,8 +15,9 @@ use Rattle.hop_machine.specs.actors.ReducerTurns.{Reducer, marks_due, notes, rec
 abbrev pub reducer_of : Setup → (p next : ℕ) → (late lagging : Bool) → Reducer
 reducer_of s p next late lagging = record { number = p; setup = s; next = next; late = late; lagging = lagging }
 
--- It is made from the record counts and the settings of its run, and looks next at a lane of the run.
-pub record IsOfRun (records : List (List ℕ)) (settings : RunSettings) (lens : List ℕ) (made : Settings) (next : ℕ) : Type 0 where
+-- It is made from the job, the record counts and the settings of its run, and looks next at a lane of the run.
+pub record IsOfRun (job : Meaning) (records : List (List ℕ)) (settings : RunSettings) (made_for : Meaning) (lens : List ℕ) (made : Settings) (next : ℕ) : Type 0 where
+  pub job_is : made_for ≡ job
   pub lens_are : lens ≡ lens_of (book_of records settings)
   pub workers : made.workers ≡ settings.workers
   pub lane : next < made.workers

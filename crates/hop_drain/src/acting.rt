@@ -4,9 +4,10 @@ use crate::drain::Drain;
 use hop_actors::{Actor, Kind, Taker, Turn};
 use hop_base::{FlatSheets, Lens, NoMemory, Part, RunName};
 use hop_inner::Reach;
+use hop_laws::Job;
 use hop_machine::reducer_laws::reducer_is_safe;
 
-impl<'a, N: RunName, E: Reach<N>> Actor<N, E> for Drain<'a, N> {
+impl<'a, N: RunName, J: Job, E: Reach<N>> Actor<N, E> for Drain<'a, N, J> {
     ghost use Rattle.std.specs.Prelude.{false};
     ghost use Rattle.hop_actors.specs.Acting.{Reduces};
     ghost use Rattle.hop_actors.specs.Counting.{no_folder};
@@ -29,7 +30,7 @@ impl<'a, N: RunName, E: Reach<N>> Actor<N, E> for Drain<'a, N> {
     }
 }
 
-impl<'a, N: RunName, E: Reach<N>> Taker<N, E> for Drain<'a, N> {
+impl<'a, N: RunName, J: Job, E: Reach<N>> Taker<N, E> for Drain<'a, N, J> {
     ghost use Rattle.std.specs.Prelude.{refl};
 
     ghost reducer = { λ r. r };

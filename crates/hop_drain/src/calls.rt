@@ -13,9 +13,10 @@ use crate::drain::Drain;
 use hop_base::{NoMemory, RunName};
 use hop_inner::Reach;
 use hop_inner::steps::record_on;
+use hop_laws::Job;
 use hop_shelf::Shelf;
 
-impl<'a, N: RunName> Drain<'a, N> {
+impl<'a, N: RunName, J: Job> Drain<'a, N, J> {
     // The records that are there of the attempt.
     pub(crate) fn read_upto<E: Reach<N>>(&self, reach: &mut E, split: u32, attempt: u8) -> u32
         requires end { (E.deeds reach.old).ends.has (KeepEnd self.now.number) ≡ true }

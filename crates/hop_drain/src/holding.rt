@@ -14,9 +14,10 @@ use crate::drain::Drain;
 use hop_base::RunName;
 use hop_inner::Reach;
 use hop_inner::steps::{give_back_on, try_hold_on};
+use hop_laws::Job;
 use hop_shelf::Shelf;
 
-impl<'a, N: RunName> Drain<'a, N> {
+impl<'a, N: RunName, J: Job> Drain<'a, N, J> {
     // The value of its lock, which it may wait for.
     pub(crate) fn hold<E: Reach<N>>(&self, reach: &mut E) -> Shelf<N>
         requires end { (E.deeds reach.old).ends.has (KeepEnd self.now.number) ≡ true }

@@ -18,9 +18,10 @@ use crate::drain::Drain;
 use hop_base::RunName;
 use hop_inner::steps::{give_back_on, record_on, take_on};
 use hop_inner::{Knowing, Message, Reach};
+use hop_laws::Job;
 use hop_shelf::Shelf;
 
-impl<'a, N: RunName> Drain<'a, N> {
+impl<'a, N: RunName, J: Job> Drain<'a, N, J> {
     // The first of the lanes follows the last.
     fn lane_after(&self, w: u8) -> u8
         requires { w < self.now.setup.workers }

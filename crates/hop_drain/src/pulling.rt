@@ -19,6 +19,7 @@ use crate::drain::Drain;
 use hop_base::{FlatSheet, FlatSheets, NoMemory, Part, RunName};
 use hop_event::Via;
 use hop_inner::Reach;
+use hop_laws::Job;
 use hop_run::{Heads, Parcel, Run};
 use std::alloc::Global;
 
@@ -47,7 +48,7 @@ fn run_of(part: Part, sheets: FlatSheets) -> Result<Run, NoMemory>
     Ok(Run::of_flat(flat, parts))
 }
 
-impl<'a, N: RunName> Drain<'a, N> {
+impl<'a, N: RunName, J: Job> Drain<'a, N, J> {
     // The range is recorded, and the cuts that it makes due are due.
     pub(crate) fn record_pull<E: Reach<N>>(
         &self,

@@ -19,11 +19,12 @@ use hop_base::RunName;
 use hop_event::Via;
 use hop_inner::steps::{give_back_on, is_revoked_on, join_on, winner_on};
 use hop_inner::{Knowing, Message, Reach};
+use hop_laws::Job;
 use hop_machine::Who;
 use hop_run::Parcel;
 use hop_shelf::Shelf;
 
-impl<'a, N: RunName> Drain<'a, N> {
+impl<'a, N: RunName, J: Job> Drain<'a, N, J> {
     // How a range comes by this lane.
     fn via(&self, w: u8) -> Via
         ensures { result ≡ lane_via self.now.late w }

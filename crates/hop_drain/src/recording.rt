@@ -15,9 +15,10 @@ use hop_base::RunName;
 use hop_cut::Cuts;
 use hop_inner::Reach;
 use hop_inner::steps::{record_on, send_cut_on};
+use hop_laws::Job;
 use hop_shelf::Shelf;
 
-impl<'a, N: RunName> Drain<'a, N> {
+impl<'a, N: RunName, J: Job> Drain<'a, N, J> {
     // These cuts go to the writer. The cut lane is never full.
     pub(crate) fn send_all<E: Reach<N>>(&self, reach: &mut E, cuts: Cuts)
         requires fits { All (CutFitsAt N.job N.records N.settings N.tells self.now.number) cuts }
@@ -47,8 +48,8 @@ impl<'a, N: RunName> Drain<'a, N> {
         }
     }
 
-    // An event was added: the cuts that it makes due are sent, and it is recorded as the value is given back.
-    pub(crate) fn close<E: Reach<N>>(&self, reach: &mut E, shelf: Shelf<N>) -> Answer
+    // The cuts that an added event makes due are sent, and the event is recorded as the value is given back.
+    fn send_and_record<E: Reach<N>>(&self, reach: &mut E, shelf: Shelf<N>) -> Answer
         requires added { IsAdded self.now.number shelf (E.deeds reach.old) }
         requires safe { Safe parts E.exact (notes_last self.now shelf.journal.events) (E.deeds reach.old) }
         ensures { Runs E.exact (notes_last self.now shelf.journal.events) (E.deeds reach.old) (self.now, said_answer result) (E.deeds reach.new) }
@@ -63,5 +64,17 @@ impl<'a, N: RunName> Drain<'a, N> {
         } else {
             Answer::Stopped
         }
+    }
+
+    // An event was added: the cuts that it makes due are sent, and it is recorded as the value is given back. Where cuts are due, the
+    // runs of each owner become one before, as far as memory allows.
+    pub(crate) fn close<E: Reach<N>>(&self, reach: &mut E, shelf: Shelf<N>) -> Answer
+        requires added { IsAdded self.now.number shelf (E.deeds reach.old) }
+        requires safe { Safe parts E.exact (notes_last self.now shelf.journal.events) (E.deeds reach.old) }
+        ensures { Runs E.exact (notes_last self.now shelf.journal.events) (E.deeds reach.old) (self.now, said_answer result) (E.deeds reach.new) }
+    {
+        let mut shelf = shelf;
+        let _merged = shelf.merge_due(self.job);
+        self.send_and_record(reach, shelf)
     }
 }

@@ -69,7 +69,7 @@ pub(crate) fn run_crew<N: RunName, E: Reach<N>, M: Store<N, E>, W: SnapshotWrite
 {
     let _lens = lens.as_slice();
     know_folders(mappers);
-    let Ok(mut reducers) = new_reducers::<N>(alloc, lens, settings) else {
+    let Ok(mut reducers) = new_reducers::<N, J>(alloc, job, lens, settings) else {
         return Err(Fault::NoMemory);
     };
     let mut mergers: Vec<NoWriter<N>> = Vec::new(alloc);

@@ -6,6 +6,7 @@ pub mod JournalLaws
 pub mod KnownLaws
 pub mod LookupLaws
 pub mod MarkLaws
+pub mod MergingLaws
 pub mod OwnerLaws
 pub mod RecordLaws
 pub mod ShelfLaws

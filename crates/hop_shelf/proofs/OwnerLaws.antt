@@ -4,7 +4,7 @@ use Rattle.std.proofs.lemmas.Bool.{true≢false, false≢true, eqb-true, eq-eqb,
 use Rattle.hop_shelf.specs.declared.kept.Kept.{Kept}
 use Rattle.hop_shelf.specs.declared.kept.Owner.{Owner}
 use Rattle.hop_shelf.specs.declared.kept.Owner.TheVariants.{Committed, Attempt}
-use Rattle.hop_shelf.specs.Kept.{kept_at}
+use Rattle.hop_shelf.specs.Kept.{kept_at, same_owner}
 use Rattle.hop_shelf.specs.contracts.kept.OwnerPartialEq.TheImpl.{eq-value}
 use Rattle.hop_base.proofs.Truth.{both_true}
 
@@ -67,3 +67,16 @@ seen_more kept at now n o s e none u = record {
   found = λ m l h. found_step kept at n o m (owner_eq o (kept_at kept m).owner) s e l refl (sym (u (kept_at kept m).owner) ∙ h);
   apart = λ i k l m same. apart_step kept at n o i k s e none l m same;
 }
+
+-- equal owners are the same in contracts' words
+pub owner_eq_same : (a b : Owner) → owner_eq a b ≡ same_owner a b
+owner_eq_same Committed Committed = refl
+owner_eq_same Committed (Attempt i a) = refl
+owner_eq_same (Attempt i a) Committed = refl
+owner_eq_same (Attempt i a) (Attempt j b) = refl
+
+pub same_itself : (a : Owner) → same_owner a a ≡ true
+same_itself a = sym (owner_eq_same a a) ∙ owner_itself a
+
+pub same_is : (a b : Owner) → same_owner a b ≡ true → a ≡ b
+same_is a b h = owner_same a b (owner_eq_same a b ∙ h)

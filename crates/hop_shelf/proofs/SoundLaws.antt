@@ -249,7 +249,7 @@ abbrev NumberedApart : List Kept → Type 0
 NumberedApart [] = Unit {0}
 NumberedApart (k ∷ kept) = AllByRecursion (λ (l : Kept). k.number ≢ l.number) kept × NumberedApart kept
 
-apart_by_recursion : (kept : List Kept) → AllPairs (λ (k l : Kept). k.number ≢ l.number) kept → NumberedApart kept
+pub apart_by_recursion : (kept : List Kept) → AllPairs (λ (k l : Kept). k.number ≢ l.number) kept → NumberedApart kept
 apart_by_recursion [] h = tt
 apart_by_recursion (k ∷ kept) h =
     (recursion_from_All (λ (l : Kept). k.number ≢ l.number) kept (λ j d l. h 0 (suc j) d (omega arith) (omega arith)), apart_by_recursion kept (λ i j d l m. h (suc i) (suc j) d (omega arith) (omega arith)))
@@ -263,7 +263,7 @@ apart_cons k kept h r = apart_at
     apart_at (suc i) zero d l m = absurd (omega (arith, l))
     apart_at (suc i) (suc j) d l m = r i j d (omega arith) (omega arith)
 
-apart_from_recursion : (kept : List Kept) → NumberedApart kept → AllPairs (λ (k l : Kept). k.number ≢ l.number) kept
+pub apart_from_recursion : (kept : List Kept) → NumberedApart kept → AllPairs (λ (k l : Kept). k.number ≢ l.number) kept
 apart_from_recursion [] h = λ i j d l m. absurd (omega (arith, m))
 apart_from_recursion (k ∷ kept) h = apart_cons k kept h.0 (apart_from_recursion kept h.1)
 
@@ -274,7 +274,7 @@ apart_filter_step : (p : Kept → Bool) (k : Kept) (kept : List Kept) (b : Bool)
 apart_filter_step p k kept true h r = (h, r)
 apart_filter_step p k kept false h r = r
 
-apart_filter : (p : Kept → Bool) (kept : List Kept) → NumberedApart kept → NumberedApart (filter p kept)
+pub apart_filter : (p : Kept → Bool) (kept : List Kept) → NumberedApart kept → NumberedApart (filter p kept)
 apart_filter p [] h = tt
 apart_filter p (k ∷ kept) h = apart_filter_step p k kept (p k) (all_kept_filter (λ (l : Kept). k.number ≢ l.number) p kept h.0) (apart_filter p kept h.1)
 
@@ -300,10 +300,10 @@ revoked_fit h kept i a loses r = record {
 -- ---- a merge
 
 -- how often a part occurs among the attempt's parts of a run
-abbrev weight : ℕ → ℕ → Part → Kept → ℕ
+abbrev pub weight : ℕ → ℕ → Part → Kept → ℕ
 weight i a x k = count part_cmp x (filter (is_of i a) k.run.parts)
 
-counts_by_runs : (i a : ℕ) (x : Part) (kept : List Kept) → count part_cmp x (filter (is_of i a) (all_parts kept)) ≡ sum_by (weight i a x) kept
+pub counts_by_runs : (i a : ℕ) (x : Part) (kept : List Kept) → count part_cmp x (filter (is_of i a) (all_parts kept)) ≡ sum_by (weight i a x) kept
 counts_by_runs i a x [] = refl
 counts_by_runs i a x (k ∷ kept) =
     let e = ap (count part_cmp x) (filter-append (is_of i a) k.run.parts (all_parts kept)) in
@@ -312,6 +312,10 @@ counts_by_runs i a x (k ∷ kept) =
 
 pub all_remove : {X : Type 0} (P : X → Type 0) (xs : List X) (i : ℕ) → All P xs → All P (remove xs i)
 all_remove P xs i h = All-append P (take i xs) (drop (suc i) xs) (All-take P i xs h) (All-drop P (suc i) xs h)
+
+pub owned_joined : (h : List Event) (o : Owner) (ps qs : List Part) → AreOwned h ps o → AreOwned h qs o → AreOwned h (ps ++ qs) o
+owned_joined h Committed ps qs v w = All-append (λ q. winner q.split h ≡ Some q.attempt) ps qs v w
+owned_joined h (Attempt i a) ps qs v w = (All-append (λ q. (q.split ≡ i) × (q.attempt ≡ a)) ps qs v.0 w.0, v.1, v.2)
 
 module _ (h : List Event) (kept : List Kept) (r : RunsFit h kept) (m n : ℕ) (run : RunValue) (m_in : m < length kept) (n_in : n < length kept) (differ : n ≢ m) (one_owner : (kept_at kept m).owner ≡ (kept_at kept n).owner) (joined : run.parts ≡ (kept_at kept m).run.parts ++ (kept_at kept n).run.parts) where
   abbrev pub merged : Kept
@@ -335,14 +339,10 @@ module _ (h : List Event) (kept : List Kept) (r : RunsFit h kept) (m n : ℕ) (r
   number_set i d l (inl e) = subst (λ j. (get_or (set kept m merged) j d).number ≡ (get_or kept j d).number) (sym e) (ap (λ (k : Kept). k.number) (get_or-set_same kept m merged d m_in ∙ refl) ∙ ap (λ (k : Kept). k.number) (get_or_default kept m no_kept d m_in))
   number_set i d l (inr e) = ap (λ (k : Kept). k.number) (get_or-set_other kept m i merged d e)
 
-  owned_joined : (o : Owner) (ps qs : List Part) → AreOwned h ps o → AreOwned h qs o → AreOwned h (ps ++ qs) o
-  owned_joined Committed ps qs v w = All-append (λ q. winner q.split h ≡ Some q.attempt) ps qs v w
-  owned_joined (Attempt i a) ps qs v w = (All-append (λ q. (q.split ≡ i) × (q.attempt ≡ a)) ps qs v.0 w.0, v.1, v.2)
-
   kept_merged : IsKept h merged
   kept_merged = record {
     number = (r.each m no_kept m_in).number;
-    owned = subst (λ ps. AreOwned h ps (kept_at kept m).owner) (sym joined) (owned_joined (kept_at kept m).owner _ _ (r.each m no_kept m_in).owned (subst (λ o. AreOwned h (kept_at kept n).run.parts o) (sym one_owner) (r.each n no_kept n_in).owned));
+    owned = subst (λ ps. AreOwned h ps (kept_at kept m).owner) (sym joined) (owned_joined h (kept_at kept m).owner _ _ (r.each m no_kept m_in).owned (subst (λ o. AreOwned h (kept_at kept n).run.parts o) (sym one_owner) (r.each n no_kept n_in).owned));
   }
 
   pub merged_fit : RunsFit h after_merge

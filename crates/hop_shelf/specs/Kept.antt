@@ -1,5 +1,5 @@
 -- The runs that a shelf keeps.
-use Rattle.std.specs.Prelude.{◌≡◌, ◌≢◌, ℕ, ◌<◌, Bool, false, not, if◌then◌else◌, List, [], length, AllPairs, slice_index_or, slice_set}
+use Rattle.std.specs.Prelude.{◌≡◌, ◌≢◌, ℕ, ◌<◌, Bool, true, false, not, if◌then◌else◌, List, [], ◌∷◌, ◌++◌, length, filter, AllPairs, slice_index_or, slice_set}
 use Rattle.std.specs.List.{flat_map, remove}
 use Rattle.hop_base.specs.declared.part.Part.{Part}
 use Rattle.hop_run.specs.Runs.{RunValue}
@@ -56,3 +56,23 @@ OwnersApart kept = (m n : ℕ) → m < n → n < length kept → (kept_at kept m
 -- a merge in the place of the first run, without the second
 abbrev pub joined_at : List Kept → ℕ → ℕ → RunValue → List Kept
 joined_at kept m n run = remove (slice_set kept m (record (kept_at kept m) { run = run })) n
+
+-- whether two owners are the same
+abbrev pub same_owner : Owner → Owner → Bool
+same_owner Committed Committed = true
+same_owner Committed (Attempt j b) = false
+same_owner (Attempt i a) Committed = false
+same_owner (Attempt i a) (Attempt j b) = same_attempt i a j b
+
+-- the runs of an owner, and those of the others
+abbrev pub is_owners : Owner → Kept → Bool
+is_owners o k = same_owner k.owner o
+
+abbrev pub is_anothers : Owner → Kept → Bool
+is_anothers o k = not (is_owners o k)
+
+-- the runs of the owner of the run at this place gave way to one, with that run's number and the parts of all of them
+pub record IsOneForOwner (kept : List Kept) (m : ℕ) (new : List Kept) : Type 0 where
+  pub run : RunValue
+  pub parts : run.parts ≡ all_parts (filter (is_owners (kept_at kept m).owner) kept)
+  pub are : new ≡ filter (is_anothers (kept_at kept m).owner) kept ++ record (kept_at kept m) { run = run } ∷ []

@@ -5,6 +5,7 @@
 mod covering;
 mod journal;
 mod kept;
+mod merging;
 pub mod shelf;
 pub mod work;
 

@@ -12,6 +12,7 @@ ghost use Rattle.hop_shelf.specs.Sound.{owner_of};
 use crate::covering::{declared_all, merged_of, runs_of};
 use crate::journal::Journal;
 use crate::kept::{self, Kept, Owner};
+use crate::merging::{are_alike, put_for_owner, run_of_owner};
 use crate::work::{MergeWork, Merged, pair_of_one_owner, put_merged};
 use hop_base::{Lens, Listed, Marks, NoMemory, Part, RunName, Text};
 use hop_cover::Coverage;
@@ -108,7 +109,7 @@ impl<N: RunName> Shelf<N> {
     ghost use Rattle.hop_shelf.specs.Names.{book_of};
     ghost use Rattle.hop_shelf.specs.Sound.{MayGrow, IsParcel, Arrives, IsSound, Lends, Installs};
     ghost use Rattle.hop_shelf.specs.Journal.{AddsEvent, IsBeginning};
-    ghost use Rattle.hop_shelf.specs.Kept.{committed_by, is_other, all_parts, OwnersApart};
+    ghost use Rattle.hop_shelf.specs.Kept.{committed_by, is_other, all_parts, OwnersApart, IsOneForOwner};
     ghost use Rattle.hop_shelf.specs.Finish.{IsFirstNotDone, AllDone, NamesBelow};
     ghost use Rattle.hop_shelf.specs.Cuts.{IsCut, AreDue, AreAllCut};
 
@@ -329,6 +330,45 @@ impl<N: RunName> Shelf<N> {
                 Installed::Installed
             }
         }
+    }
+
+    // The runs of the owner of the run at this place become one.
+    fn merge_owner<J: Job>(&mut self, job: &J, m: usize) -> Result<(), NoMemory>
+        requires job { J.meaning job.now ≡ N.job }
+        requires place { m < length self.old.kept }
+        ensures journal { self.new.journal ≡ self.old.journal }
+        ensures p { self.new.p ≡ self.old.p }
+        ensures ok { OnOk result (IsOneForOwner self.old.kept m self.new.kept) }
+        ensures err { OnErr result (self.new.kept ≡ self.old.kept) }
+    {
+        self.kept.reserve(1)?;
+        let number = self.kept[m].number;
+        let owner = self.kept[m].owner;
+        let run = run_of_owner(*self.kept.allocator(), job, owner, &self.kept)?;
+        put_for_owner(&mut self.kept, Kept { number, owner, run });
+        Ok(())
+    }
+
+    /// Where cuts are due, the runs of each owner become one, the values of each key combined, so that the cuts and all that follows
+    /// have few pairs to merge. It is no event, and the history stays. It is left where two runs of an owner hardly have a key in
+    /// common, since one run would then have all their pairs once more. After `NoMemory` some runs may have become one. It is one pass
+    /// over the runs that came since it was last done, and over what they became. (An external merge sort's early aggregation.)
+    pub fn merge_due<J: Job>(&mut self, job: &J) -> Result<(), NoMemory>
+        requires job { J.meaning job.now ≡ N.job }
+        ensures journal { self.new.journal ≡ self.old.journal }
+        ensures p { self.new.p ≡ self.old.p }
+    {
+        let alloc = *self.kept.allocator();
+        if self.journal.due()?.is_empty() {
+            return Ok(());
+        }
+        while let Some((m, n)) = pair_of_one_owner(alloc, &self.kept)? {
+            if !are_alike(alloc, job, &self.kept[m].run, &self.kept[n].run)? {
+                return Ok(());
+            }
+            self.merge_owner(job, m)?;
+        }
+        Ok(())
     }
 
     // The cut of a mark that is reached first here.
