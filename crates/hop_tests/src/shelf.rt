@@ -68,6 +68,8 @@ enum Step {
     Lend,
     // The merge that was lent first is installed.
     Install,
+    // The runs of each owner become one, where a cut is due.
+    Merge,
     // The snapshot of the one cut that is due is written.
     Cut,
     // What is there of the attempt is said.
@@ -234,6 +236,14 @@ fn install(
     }
 }
 
+// The runs of each owner become one, where a cut is due.
+fn merge(shelf: &mut Shelf<Sample>) -> Result<&'static [u8], Fail>
+    ensures { shelf.new.p ≡ shelf.old.p }
+{
+    shelf.merge_due(&Wc)?;
+    Ok(b"merged")
+}
+
 // The run has one split.
 fn know_splits(shelf: &Shelf<Sample>)
     ensures { length shelf.now.journal.lens ≡ 1 }
@@ -311,6 +321,7 @@ fn take_step(
         Step::Restart => restart(shelf)?,
         Step::Lend => lend(shelf, alloc, merges)?,
         Step::Install => install(shelf, merges)?,
+        Step::Merge => merge(shelf)?,
         Step::Cut => {
             let text = snapshot(shelf, alloc)?;
             return say(said, text.as_slice());
@@ -345,6 +356,13 @@ fn plays_histories_by_hand(rt: HostRuntime) -> Result<(), Fail> {
         Step::Install,
     ];
     let cuts_a_mark_that_is_reached = [take(0, 0, 1), Step::Cut];
+    let merges_before_a_cut = [
+        take(0, 0, 1),
+        take(0, 1, 2),
+        Step::Merge,
+        Step::Lend,
+        Step::Cut,
+    ];
     let ends_with_the_text_of_the_blocking_job = [
         take(0, 0, 1),
         take(0, 0, 1),
@@ -390,9 +408,10 @@ fn plays_histories_by_hand(rt: HostRuntime) -> Result<(), Fail> {
         Step::Look(0),
     ];
     #[rattlefmt::skip]
-    let cases: [(&[Step], &[u8]); 7] = [
+    let cases: [(&[Step], &[u8]); 8] = [
         (&merges_once, b"taken\nnothing is lent\ntaken\nlent\nlent\ninstalled\nstale\n"),
         (&cuts_a_mark_that_is_reached, b"taken\nhop-snapshot 1\njob wc\nmark 5000\nreducer 0 of 1\nprogress 5000\nsplit 0 attempt 0 records 1 of 2 tentative\n--\na\t1\n\n"),
+        (&merges_before_a_cut, b"taken\ntaken\nmerged\nnothing is lent\nhop-snapshot 1\njob wc\nmark 10000\nreducer 0 of 1\nprogress 10000\nsplit 0 attempt 0 records 2 of 2 tentative\n--\na\t1\nb\t1\n\n"),
         (&ends_with_the_text_of_the_blocking_job, b"taken\nignored\ntaken\nwon\nnot yet\nrevoked\nwhole winner\nrevoked, without records\na\t1\nb\t1\nfinished\n"),
         (&refuses_a_merge_of_a_revoked_attempt, b"taken\ntaken\nlent\nrevoked\nstale\n"),
         (&drops_a_merged_run_of_a_revoked_attempt, b"taken\ntaken\nlent\ninstalled\nrevoked\ntaken\nwon\na\t1\nb\t1\nfinished\n"),
