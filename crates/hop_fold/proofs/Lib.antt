@@ -1,3 +1,4 @@
+pub mod FoldingLaws
 pub mod LineLaws
 pub mod Standing
 pub mod WithinLaws

@@ -2,8 +2,9 @@
 #![tactic(auto)]
 
 pub mod blocking;
-mod gathered;
+pub mod folded;
 mod lines;
 mod lists;
 
 pub use blocking::{block, block_lines, block_short_lines};
+pub use folded::Folded;

@@ -2,14 +2,10 @@
 ghost use Rattle.std.specs.Prelude.{◌≡◌, ◌≤◌, ◌∷◌, [], ℕ, List, length, replicate, map, IfOk, OnOk};
 ghost use Rattle.hop_laws.specs.Groups.{red};
 
-use crate::gathered::Folded;
+use crate::folded::{Folded, LEAST};
 use hop_base::{NoMemory, Texts};
 use hop_laws::{Job, PairSink, partition};
 use std::alloc::Global;
-
-// So many pairs are kept, in all partitions, before those of one are combined for the first time: few enough
-// for a processor's cache.
-const LEAST: usize = 16_384;
 
 // The lists of 1 to 8 partitions, for a job.
 #[derive(Drop)]
@@ -59,7 +55,7 @@ fn empty_lists(alloc: Global, r: u8) -> Result<Vec<Folded>, NoMemory>
 {
     let mut lists = Vec::new(alloc);
     for _p in 0..r {
-        let list = Folded::new(alloc, LEAST / r as usize)?;
+        let list = Folded::with_least(alloc, LEAST / r as usize)?;
         lists.push(list)?;
     }
     Ok(lists)

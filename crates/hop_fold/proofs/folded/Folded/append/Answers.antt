@@ -2,7 +2,7 @@ use Rattle.std.proofs.Common.{◌++◌, [], ◌∷◌, ap, ◌∙◌, arith}
 use Rattle.hop_base.specs.declared.value.Pair.{Pair}
 use Rattle.hop_base.specs.Fields.{pair_of}
 use Rattle.hop_laws.proofs.TakenLaws.{added}
-use Rattle.hop_fold.proofs.gathered.Folded.append.Goals as goal
+use Rattle.hop_fold.proofs.folded.Folded.append.Goals as goal
 
 pub returns-in_ok-shrink : goal.returns-in_ok-shrink
 returns-in_ok-shrink g c =

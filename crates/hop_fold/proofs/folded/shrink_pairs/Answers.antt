@@ -1,7 +1,7 @@
 use Rattle.std.proofs.Common.{◌++◌, ap, ◌∙◌}
 use Rattle.hop_laws.specs.Stands.{combined_pairs}
 use Rattle.hop_fold.proofs.Standing.{sorted_stands, combined_stands}
-use Rattle.hop_fold.proofs.gathered.shrink_pairs.Goals as goal
+use Rattle.hop_fold.proofs.folded.shrink_pairs.Goals as goal
 
 pub returns-then-are_mostly_apart : goal.returns-then-are_mostly_apart
 returns-then-are_mostly_apart g c = sorted_stands (g.J.Job.meaning c.args.job.now).reduced c.args.pairs.now c.sort.new.self c.sort.ensures.same

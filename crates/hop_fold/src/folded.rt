@@ -1,10 +1,12 @@
-//! The pairs of the partitions, gathered while records are mapped.
-ghost use Rattle.std.specs.Prelude.{◌≡◌, ◌≤◌, ◌∷◌, [], length, IfOk, OnOk};
+//! Pairs that are gathered to be reduced, few at a time.
+ghost use Rattle.std.specs.Prelude.{◌≡◌, ◌≤◌, ◌∷◌, ◌++◌, [], List, length, IfOk, OnOk};
+ghost use Rattle.hop_base.specs.declared.value.Pair.{Pair};
 ghost use Rattle.hop_laws.specs.Groups.{red};
 ghost use Rattle.hop_base.specs.Fields.{pair_of};
 ghost use Rattle.hop_laws.specs.Stands.{KeepsStanding, StandsWith};
+ghost use Rattle.hop_fold.specs.Folding.{Folds};
 
-use hop_base::{NoMemory, Text};
+use hop_base::{FlatSheet, FlatSheetBuilder, NoMemory, Text};
 use hop_laws::{Gathered, Index, Job, PairSink};
 use std::alloc::Global;
 use std::marker::Model;
@@ -12,10 +14,15 @@ use std::marker::Model;
 // The index has 2 to the power of so many slots: those of 8 bytes stay in a processor's cache.
 const INDEX_BITS: u32 = 15;
 
-// Pairs of one partition. They are combined each time that they have grown to some times as many, so there are
-// about as many as combine leaves, however many map emits.
+// So many pairs are kept before any are combined for the first time: few enough for a processor's cache.
+pub(crate) const LEAST: usize = 16_384;
+
+/// Pairs that are gathered to be reduced or combined, for one partition. A number alone is joined to one of its key as
+/// it comes, where one is found, and all are combined each time that they have grown to some times as many, so there
+/// are about as many as combine leaves, however many come: the combiner of MapReduce (OSDI 2004), before any pair is
+/// put in order. What matters of them is what they stand for.
 #[derive(Drop)]
-pub(crate) struct Folded {
+pub struct Folded {
     pairs: Gathered,
     least: usize,
     limit: usize,
@@ -32,8 +39,15 @@ impl Model for Folded {
 }
 
 impl Folded {
+    /// No pairs. It takes the memory of an index of 256 KiB.
+    pub fn new(alloc: Global) -> Result<Folded, NoMemory>
+        ensures { IfOk result (λ made. made ≡ []) }
+    {
+        Folded::with_least(alloc, LEAST)
+    }
+
     // No pairs. Fewer than `least` are not combined.
-    pub(crate) fn new(alloc: Global, least: usize) -> Result<Folded, NoMemory>
+    pub(crate) fn with_least(alloc: Global, least: usize) -> Result<Folded, NoMemory>
         ensures { IfOk result (λ made. made ≡ []) }
     {
         let index = Index::new(alloc, INDEX_BITS)?;
@@ -43,6 +57,23 @@ impl Folded {
             limit: least,
             index,
         })
+    }
+
+    /// The pairs of a sheet come to them.
+    pub fn take_sheet<J: Job>(
+        &mut self,
+        alloc: Global,
+        job: &J,
+        sheet: &FlatSheet,
+    ) -> Result<(), NoMemory>
+        ensures { OnOk result ((pairs : List Pair) → Folds (J.meaning job.now).reduced self.old pairs → Folds (J.meaning job.now).reduced self.new (pairs ++ sheet.now)) }
+    {
+        sheet.known();
+        for k in 0..sheet.len() {
+            let pair = sheet.pair(k);
+            self.add(alloc, job, pair.key, pair.n, pair.text)?;
+        }
+        Ok(())
     }
 
     // One more pair. A number alone is joined to one of its key, where one is found.
@@ -97,12 +128,22 @@ impl Folded {
         Ok(())
     }
 
-    // The reduction of the pairs.
-    pub(crate) fn reduced<J: Job>(mut self, alloc: Global, job: &J) -> Result<Text, NoMemory>
+    /// What reduce gives for each key of the pairs and its values, the keys ascending, joined.
+    pub fn reduced<J: Job>(mut self, alloc: Global, job: &J) -> Result<Text, NoMemory>
         ensures { IfOk result (λ text. text ≡ red (J.meaning job.now).reduced self) }
     {
         let text = self.pairs.reduced(alloc, job)?;
         Ok(Text::from_vec(text))
+    }
+
+    /// The pairs in order, the values of each key combined. They stand for whatever these stand for.
+    pub fn combined<J: Job>(mut self, alloc: Global, job: &J) -> Result<FlatSheet, NoMemory>
+        ensures { IfOk result (KeepsStanding (J.meaning job.now).reduced self) }
+    {
+        let mut builder = FlatSheetBuilder::new(alloc);
+        self.pairs.combined_into(alloc, job, &mut builder)?;
+        let flat = builder.finish()?;
+        Ok(flat)
     }
 }
 

@@ -4,7 +4,7 @@ use Rattle.std.proofs.lemmas.List.{nil_from_length}
 use Rattle.hop_base.specs.declared.value.Pair.{Pair}
 use Rattle.hop_base.specs.Fields.{pair_of}
 use Rattle.hop_laws.specs.Stands.{StandsWith}
-use Rattle.hop_fold.proofs.gathered.Folded.add.Goals as goal
+use Rattle.hop_fold.proofs.folded.Folded.add.Goals as goal
 
 pub returns-then-join : goal.returns-then-join
 returns-then-join g c =
