@@ -1,5 +1,6 @@
 pub mod AcceptLaws
 pub mod DueLaws
+pub mod FoldedRuns
 pub mod HeadLaws
 pub mod LineLaws
 pub mod NameLaws

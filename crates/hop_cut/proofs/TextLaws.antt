@@ -1,17 +1,14 @@
 -- A snapshot's text, as it is written.
 use Rattle.std.proofs.Common.{◌≡◌, ℕ, zero, suc, ◌+◌, ◌<◌, ◌≤◌, Option, None, List, [], ◌∷◌, ◌++◌, length, take, get_or, refl, sym, ap, ◌∙◌, arith, append_assoc, add-one}
-use Rattle.std.specs.Prelude.{codes, IsPermutation}
+use Rattle.std.specs.Prelude.{codes}
 use Rattle.std.specs.Option.{option_map}
 use Rattle.std.specs.List.{flat_map}
 use Rattle.std.proofs.lemmas.List.{take_all}
 use Rattle.hop_base.specs.Meaning.{Meaning}
-use Rattle.hop_base.specs.declared.value.Val.{Val}
-use Rattle.hop_base.specs.declared.value.Pair.{Pair}
 use Rattle.hop_base.specs.declared.part.Part.{Part}
 use Rattle.hop_laws.specs.Groups.{red}
 use Rattle.hop_laws.specs.Blocking.{emitted, part_records, part_pairs}
 use Rattle.hop_laws.proofs.Emitted.{emitted-append}
-use Rattle.hop_laws.proofs.Values.{each_permuted}
 use Rattle.hop_laws.proofs.StandsLaws.{red_stands}
 use Rattle.hop_event.specs.declared.declared.Declared.{Declared}
 use Rattle.hop_event.specs.Coverage.{progress_of}
@@ -64,10 +61,6 @@ write_header name mark p r n ls ds none first second o e f =
 pub emitted_parts : (meaning : Meaning) (records : List (List ℕ)) (n p r : ℕ) (parts : List Part) → flat_map (part_pairs meaning records n p r) parts ≡ emitted meaning (flat_map (part_records records n) parts) p r
 emitted_parts meaning records n p r [] = refl
 emitted_parts meaning records n p r (part ∷ parts) = ap (λ ps. part_pairs meaning records n p r part ++ ps) (emitted_parts meaning records n p r parts) ∙ sym (emitted-append meaning (part_records records n part) (flat_map (part_records records n) parts) p r)
-
--- the reduction of pairs in any order
-pub red_permuted : (reduce : List ℕ → List Val → List ℕ) (ps qs : List Pair) → IsPermutation ps qs → red reduce qs ≡ red reduce ps
-red_permuted reduce ps qs h = sym (each_permuted reduce ps qs h)
 
 -- runs of a coverage reduce to the blocking job's text of what it covers
 pub write_snapshot : (meaning : Meaning) (records : List (List ℕ)) (n p r : ℕ) (lens : List ℕ) (cut : Cut) → IsOfCoverage meaning records n p r lens cut → text_with (header_of meaning.name cut.mark p r cut.progress lens cut.declared) (red meaning.reduced (flat_map (λ run. run.sheet) cut.runs)) ≡ snapshot_text meaning records n p r lens cut.mark cut.declared

@@ -8,7 +8,8 @@ ghost use Rattle.hop_cut.specs.Covered.{IsOfCoverage, snapshot_text, text_with, 
 use crate::texts::{push_first, push_splits};
 use hop_base::{Lens, Listed, NoMemory, Text};
 use hop_cover::Declares;
-use hop_laws::{Job, reduce_flat};
+use hop_fold::Folded;
+use hop_laws::Job;
 use hop_run::{Run, Runs};
 use std::alloc::Global;
 
@@ -65,7 +66,7 @@ fn written<J: Job>(
     let name = job.name(alloc)?;
     let mut text = header(alloc, name.as_slice(), p, r, lens, cut)?;
     let body = body(alloc, job, cut.runs.as_slice())?;
-    text.extend_from_slice(&body)?;
+    text.extend_from_slice(body.as_slice())?;
     Ok(Listed::from_vec(text))
 }
 
@@ -88,10 +89,13 @@ fn header(
 }
 
 // The reduction of all these runs together.
-fn body<J: Job>(alloc: Global, job: &J, runs: &[Run]) -> Result<Vec<u8>, NoMemory>
-    ensures { IfOk result (λ text. text.items ≡ red (J.meaning job.now).reduced (flat_map (λ run. run.sheet) runs.now)) }
+fn body<J: Job>(alloc: Global, job: &J, runs: &[Run]) -> Result<Text, NoMemory>
+    ensures { IfOk result (λ text. text ≡ red (J.meaning job.now).reduced (flat_map (λ run. run.sheet) runs.now)) }
 {
-    let flat = Run::merged_pairs(alloc, runs)?;
-    let text = reduce_flat(alloc, job, &flat)?;
+    let mut pairs = Folded::new(alloc)?;
+    for run in runs {
+        pairs.take_sheet(alloc, job, run.flat())?;
+    }
+    let text = pairs.reduced(alloc, job)?;
     Ok(text)
 }

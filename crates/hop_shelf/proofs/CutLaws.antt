@@ -24,7 +24,7 @@ use Rattle.hop_event.proofs.Sums.{sum_changed, sum_bound}
 use Rattle.hop_shelf.specs.declared.kept.Kept.{Kept}
 use Rattle.hop_shelf.specs.declared.kept.Owner.{Owner}
 use Rattle.hop_shelf.specs.declared.kept.Owner.TheVariants.{Committed, Attempt}
-use Rattle.hop_shelf.specs.Kept.{all_parts}
+use Rattle.hop_shelf.specs.Kept.{all_parts, pairs_where}
 use Rattle.hop_shelf.specs.Parts.{part_cmp, is_of, parts_of, IsChain}
 use Rattle.hop_shelf.specs.Sound.{AreOwned, IsKept, IsConsecutive, RunsFit}
 use Rattle.hop_shelf.specs.Covered.{IsOfRanges, declares}
@@ -43,9 +43,9 @@ use Rattle.hop_shelf.specs.Sound.{IsSound}
 use Rattle.hop_shelf.specs.Covered.{covers_in}
 use Rattle.hop_event.specs.Legal.{AllWon}
 use Rattle.hop_laws.specs.Groups.{red}
-use Rattle.hop_laws.proofs.Values.{each_permuted}
+use Rattle.hop_fold.specs.Folding.{Folds}
+use Rattle.hop_fold.proofs.FoldingLaws.{red_folds}
 use Rattle.hop_laws.proofs.StandsLaws.{red_stands}
-use Rattle.std.specs.List.Sorted.{IsPermutation}
 use Rattle.hop_shelf.proofs.Together.{whole_pairs}
 
 -- whether the part's attempt is declared
@@ -255,9 +255,9 @@ module _ (rules : Rules) (p : ℕ) (marks : List ℕ) (wanted : Bool) (tells : B
       subst (λ parts. StandTogether reduce runs (flat_map pairs_of parts)) (sym (ap covered_parts d ∙ covered_same j.tentative j.lens j.events)) (sound_together declarations runs d r t)
 
   -- where all splits are won whole, the reduction of the covered runs is that of all records
-  pub sound_reduced : AllWon j.lens j.events → (declarations : List (Option Declared)) (pairs sheet : List Pair) → declarations ≡ map (declared j.tentative j.events) (range_with_len 0 (length j.lens)) → pairs ≡ flat_map (λ (r : RunValue). r.sheet) (map (λ (k : Kept). k.run) (filter (λ (k : Kept). covers_in declarations k.owner) kept)) → IsPermutation pairs sheet → IsTrue tells → red reduce sheet ≡ red reduce (flat_map pairs_of (whole_parts j.lens))
-  sound_reduced won declarations pairs sheet d e perm t =
+  pub sound_reduced : AllWon j.lens j.events → (declarations : List (Option Declared)) (folded : List Pair) → declarations ≡ map (declared j.tentative j.events) (range_with_len 0 (length j.lens)) → Folds reduce folded (pairs_where (λ (k : Kept). covers_in declarations k.owner) kept) → IsTrue tells → red reduce folded ≡ red reduce (flat_map pairs_of (whole_parts j.lens))
+  sound_reduced won declarations folded d f t =
       let runs : List RunValue = map (λ (k : Kept). k.run) (filter (λ (k : Kept). covers_in declarations k.owner) kept) in
-      sym (each_permuted reduce pairs sheet perm) ∙ ap (red reduce) e
+      red_folds reduce folded (pairs_where (λ (k : Kept). covers_in declarations k.owner) kept) f
       ∙ red_stands reduce (flat_map (λ (r : RunValue). r.sheet) runs) (flat_map pairs_of (covered_by j.tentative j.lens j.events)) (sound_together declarations runs d refl t)
       ∙ ap (red reduce) (whole_pairs pairs_of s.by_records j.tentative j.lens j.events (λ i l. (won i l, (s.ranges.each i 0 l).some)))

@@ -29,8 +29,8 @@ use Rattle.hop_event.specs.History.{upto, winner, is_revoked}
 use Rattle.hop_event.specs.Coverage.{leader, declared, declared_by, tentative_records, records_of, committed_part}
 use Rattle.std.specs.Prelude.{nat_lt}
 use Rattle.std.proofs.Common.{eqb}
-use Rattle.std.proofs.lemmas.List.{append-nil, take_more}
-use Rattle.std.proofs.Common.{take, get_or, slice_index}
+use Rattle.std.proofs.lemmas.List.{append-nil}
+use Rattle.std.proofs.Common.{slice_index}
 use Rattle.hop_event.specs.Legal.{IsWon}
 use Rattle.std.proofs.lemmas.Bool.Decides.{nat_tests}
 
@@ -146,15 +146,6 @@ covered_pairs pairs_of r h tentative qs c (i ∷ is) =
     ∙ ap (λ ps. ps ++ flat_map pairs_of (flat_map (λ i. parts_at i (declared tentative h i) qs) is)) (parts_at_pairs pairs_of r h tentative qs c i (declared tentative h i) refl)
     ∙ ap (λ ps. flat_map pairs_of (part_declared i (declared tentative h i)) ++ ps) (covered_pairs pairs_of r h tentative qs c is)
     ∙ sym (flat_map-append pairs_of (part_declared i (declared tentative h i)) (flat_map (λ i. part_declared i (declared tentative h i)) is))
-
--- ---- one run of all runs
-
-pub joined_more : (runs : List RunValue) (i : ℕ) (x : RunValue) (whole new : List Pair) → i < length runs → x ≡ get_or runs i x → IsPermutation (flat_map (λ (r : RunValue). r.sheet) (take i runs)) whole → IsPermutation (whole ++ x.sheet) new → IsPermutation (flat_map (λ (r : RunValue). r.sheet) (take (i + 1) runs)) new
-joined_more runs i x whole new l e p q =
-    let sheet = λ (r : RunValue). r.sheet in
-    let more : take (i + 1) runs ≡ take i runs ++ x ∷ [] = take_more runs i x l ∙ ap (λ y. take i runs ++ y ∷ []) (sym e) in
-    let flat : flat_map sheet (take (i + 1) runs) ≡ flat_map sheet (take i runs) ++ x.sheet = ap (flat_map sheet) more ∙ flat_map-append sheet (take i runs) (x ∷ []) ∙ ap (λ l. flat_map sheet (take i runs) ++ l) (append-nil x.sheet) in
-    subst (λ l. IsPermutation l new) (sym flat) (IsPermutation-trans _ _ _ (IsPermutation-append_left x.sheet _ _ p) q)
 
 -- ---- a finished history covers whole splits
 

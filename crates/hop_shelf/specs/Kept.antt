@@ -1,7 +1,8 @@
 -- The runs that a shelf keeps.
-use Rattle.std.specs.Prelude.{◌≡◌, ◌≢◌, ℕ, ◌<◌, Bool, true, false, not, if◌then◌else◌, List, [], ◌∷◌, ◌++◌, length, filter, AllPairs, slice_index_or, slice_set}
+use Rattle.std.specs.Prelude.{◌≡◌, ◌≢◌, ℕ, ◌<◌, Bool, true, false, not, if◌then◌else◌, List, [], ◌∷◌, ◌++◌, length, map, filter, AllPairs, slice_index_or, slice_set}
 use Rattle.std.specs.List.{flat_map, remove}
 use Rattle.hop_base.specs.declared.part.Part.{Part}
+use Rattle.hop_base.specs.declared.value.Pair.{Pair}
 use Rattle.hop_run.specs.Runs.{RunValue}
 use Rattle.hop_event.specs.History.{same_attempt}
 use Rattle.hop_shelf.specs.declared.kept.Kept.{Kept}
@@ -23,6 +24,10 @@ committed_by i a k = if owned_by i a k.owner then record k { owner = Committed }
 -- the parts of all runs
 abbrev pub all_parts : List Kept → List Part
 all_parts kept = flat_map (λ k. k.run.parts) kept
+
+-- the pairs of the runs that pass a test
+abbrev pub pairs_where : (Kept → Bool) → List Kept → List Pair
+pairs_where test kept = flat_map (λ (r : RunValue). r.sheet) (map (λ (k : Kept). k.run) (filter test kept))
 
 abbrev pub no_kept : Kept
 no_kept = record { number = 0; owner = Committed; run = record { sheet = []; parts = [] } }

@@ -1,16 +1,18 @@
 //! What a history covers, and the runs of it.
 ghost use Rattle.std.specs.Prelude.{◌≡◌, length, map, filter, IfOk};
-ghost use Rattle.std.specs.List.{range_with_len, flat_map};
-ghost use Rattle.hop_base.specs.Order.{pair_cmp};
-ghost use Rattle.hop_base.specs.Sorted.{ord};
+ghost use Rattle.std.specs.List.{range_with_len};
+ghost use Rattle.hop_fold.specs.Folding.{Folds};
 ghost use Rattle.hop_event.specs.Coverage.{declared};
 ghost use Rattle.hop_shelf.specs.Covered.{covers_in};
+ghost use Rattle.hop_shelf.specs.Kept.{pairs_where};
 
 use crate::journal::Journal;
 use crate::kept::{Kept, Owner};
-use hop_base::{FlatSheet, Listed, NoMemory};
+use hop_base::{Listed, NoMemory};
 use hop_cover::{Declared, Declares};
-use hop_run::{Heads, Run, Runs};
+use hop_fold::Folded;
+use hop_laws::Job;
+use hop_run::{Run, Runs};
 use std::alloc::Global;
 
 // Whether these declarations cover the runs of an owner.
@@ -43,21 +45,22 @@ pub(crate) fn runs_of(
     Ok(Listed::from_vec(runs))
 }
 
-/// The pairs of the runs that these declarations cover, in order.
-pub(crate) fn merged_of(
+/// The pairs of the runs that these declarations cover, gathered to be reduced.
+pub(crate) fn folded_of<J: Job>(
     alloc: Global,
+    job: &J,
     declarations: &[Option<Declared>],
     kept: &[Kept],
-) -> Result<FlatSheet, NoMemory>
-    ensures { IfOk result (λ flat. flat ≡ ord pair_cmp (flat_map (λ r. r.sheet) (map (λ k. k.run) (filter (λ k. covers_in declarations.now k.owner) kept.now)))) }
+) -> Result<Folded, NoMemory>
+    ensures { IfOk result (λ folded. Folds (J.meaning job.now).reduced folded (pairs_where (λ k. covers_in declarations.now k.owner) kept.now)) }
 {
-    let mut heads = Heads::new(alloc);
+    let mut folded = Folded::new(alloc)?;
     for one in kept {
         if covers(declarations, one.owner) {
-            heads.add(one.run.flat())?;
+            folded.take_sheet(alloc, job, one.run.flat())?;
         }
     }
-    heads.merged()
+    Ok(folded)
 }
 
 /// What each split declares.

@@ -9,7 +9,7 @@ ghost use Rattle.hop_shelf.specs.Holds.{RunHolds};
 ghost use Rattle.hop_shelf.specs.Names.{rules_of, pairs_of, IsRun};
 ghost use Rattle.hop_shelf.specs.Sound.{owner_of};
 
-use crate::covering::{declared_all, merged_of, runs_of};
+use crate::covering::{declared_all, folded_of, runs_of};
 use crate::journal::Journal;
 use crate::kept::{self, Kept, Owner};
 use crate::merging::{are_alike, put_for_owner, run_of_owner};
@@ -18,7 +18,7 @@ use hop_base::{Lens, Listed, Marks, NoMemory, Part, RunName, Text};
 use hop_cover::Coverage;
 use hop_cut::{Cut, Cuts};
 use hop_event::{Event, History, Via};
-use hop_laws::{Job, reduce_flat};
+use hop_laws::Job;
 use hop_run::Parcel;
 use hop_script::Script;
 use std::alloc::Global;
@@ -363,7 +363,7 @@ impl<N: RunName> Shelf<N> {
             return Ok(());
         }
         while let Some((m, n)) = pair_of_one_owner(alloc, &self.kept)? {
-            if !are_alike(alloc, job, &self.kept[m].run, &self.kept[n].run)? {
+            if !are_alike(&self.kept[m].run, &self.kept[n].run) {
                 return Ok(());
             }
             self.merge_owner(job, m)?;
@@ -455,8 +455,8 @@ impl<N: RunName> Shelf<N> {
     {
         let alloc = *self.kept.allocator();
         let declared = declared_all(alloc, &self.journal)?;
-        let flat = merged_of(alloc, declared.as_slice(), &self.kept)?;
-        let text = reduce_flat(alloc, job, &flat)?;
-        Ok(Text::from_vec(text))
+        let folded = folded_of(alloc, job, declared.as_slice(), &self.kept)?;
+        let text = folded.reduced(alloc, job)?;
+        Ok(text)
     }
 }
