@@ -7,6 +7,7 @@ ghost use Rattle.hop_laws.specs.Groups.{red};
 ghost use Rattle.hop_records.specs.Records.{splits_of, len_of};
 
 use hop_base::{NoMemory, Part, Text};
+use hop_fold::Folded;
 use hop_jobs::{Known, Wc};
 use hop_laws::Job;
 use hop_merge::merge_all;
@@ -202,6 +203,26 @@ fn merges_many_runs(rt: HostRuntime) -> Result<(), Fail> {
     let all = merge_all(rt.alloc(), two_runs(rt.alloc())?.as_slice())?;
     assert_eq!(rt; shown(rt.alloc(), &all)?.as_slice(), b"a1b1b1".as_slice());
     assert_eq!(rt; all.parts(), [part(0, 1), part(1, 2)].as_slice());
+    Ok(())
+}
+
+// The pairs of these runs, gathered.
+fn folded(alloc: Global, runs: &[Run]) -> Result<Folded, NoMemory> {
+    let mut pairs = Folded::new(alloc)?;
+    for run in runs {
+        pairs.take_sheet(alloc, &Wc, run.flat())?;
+    }
+    Ok(pairs)
+}
+
+#[test]
+fn gathers_the_pairs_of_runs(rt: HostRuntime) -> Result<(), Fail> {
+    let runs = two_runs(rt.alloc())?;
+    let text = folded(rt.alloc(), runs.as_slice())?.reduced(rt.alloc(), &Wc)?;
+    assert_eq!(rt; text.as_slice(), b"a\t1\nb\t2\n".as_slice());
+    let flat = folded(rt.alloc(), runs.as_slice())?.combined(rt.alloc(), &Wc)?;
+    let run = Run::of_flat(flat, Vec::new(rt.alloc()));
+    assert_eq!(rt; shown(rt.alloc(), &run)?.as_slice(), b"a1b2".as_slice());
     Ok(())
 }
 
