@@ -1,7 +1,7 @@
 # make demo: shows a snapshot of a small run, then builds the program without proving it, and runs the sample job.
 # make hop: proves and builds the program, and leaves it as ./hop.
 # make test: the gate over the whole repository, and then the checks over the real program, which is the one that the
-# gate proved and built: byte for byte what make hop builds, which would prove all of it once more in a place of its own.
+# gate proved and built; make hop would prove all of it once more, in a place of its own.
 
 .PHONY: demo test hop
 
